@@ -1,0 +1,49 @@
+-- A list with another written over a part of it. Assumes nothing.
+use Prim.Native.Nat.{ℕ, _+_, _≤_, _<_}
+use mathlib.Core.Path.{_≡_, sym, ap, _∙_}
+use mathlib.Core.List.{List, [], _∷_, _++_, append-assoc}
+use native.Mathlib.Nat.{zero-add, add-assoc}
+use native.Mathlib.Omega.{arith}
+use lib.ListN.{length, take, drop, set, length-append, length-drop}
+use lib.Seq.{length-take-le, take-at, drop-append-add, drop-drop, sets, sets-eq}
+
+module _ {A : Type 0} where
+  -- xs, with ys written over it from the place at on
+  unfoldable pub splice : List A → ℕ → List A → List A
+  splice xs at ys = take at xs ++ (ys ++ drop (at + length ys) xs)
+
+  -- Where ys fits, the length stays.
+  pub length-splice : (xs : List A) (at : ℕ) (ys : List A) → at + length ys ≤ length xs → length (splice xs at ys) ≡ length xs
+  unfolding splice
+  length-splice xs at ys h =
+      let e : length (take at xs) ≡ at = length-take-le at xs (omega arith) in
+      simp (length-append, e, length-drop) (omega arith)
+
+  -- A run of stores, one place after another.
+  pub splice-sets : (xs : List A) (at : ℕ) (ys : List A) → at + length ys ≤ length xs → splice xs at ys ≡ sets xs at ys
+  unfolding splice
+  splice-sets xs at ys h = sym (sets-eq ys xs at h ∙ append-assoc (take at xs) ys (drop (at + length ys) xs))
+
+  -- A single element is a store.
+  pub splice-one : (xs : List A) (at : ℕ) (b : A) → at < length xs → splice xs at (b ∷ []) ≡ set xs at b
+  splice-one xs at b h = splice-sets xs at (b ∷ []) (omega arith)
+
+  -- One after the other is both at once.
+  pub splice-splice : (xs : List A) (at : ℕ) (s t : List A) → at + (length s + length t) ≤ length xs →
+      splice (splice xs at s) (at + length s) t ≡ splice xs at (s ++ t)
+  unfolding splice
+  splice-splice xs at s t h =
+      let p : List A = take at xs ++ s in
+      let r : List A = drop (at + length s) xs in
+      let e : length p ≡ at + length s = simp (length-append, length-take-le at xs (omega arith)) in
+      let join : take at xs ++ (s ++ r) ≡ p ++ r = sym (append-assoc (take at xs) s r) in
+      let front : take (at + length s) (p ++ r) ≡ p = take-at p r (at + length s) e in
+      let rest : drop (at + length s + length t) (p ++ r) ≡ drop (at + length (s ++ t)) xs =
+      ap (λ k. drop (k + length t) (p ++ r)) (sym e) ∙ drop-append-add p r (length t)
+      ∙ drop-drop (length t) (at + length s) xs ∙ simp (length-append, add-assoc) in
+      rw (join, front, rest) (simp append-assoc)
+
+  -- At the front the text comes first, and then what it does not cover.
+  pub splice-front : (xs ys : List A) → splice xs 0 ys ≡ ys ++ drop (length ys) xs
+  unfolding splice
+  splice-front xs ys = rw zero-add

@@ -1,0 +1,36 @@
+-- Booleans and tests on numbers. Assumes nothing.
+use Prim.Native.Nat.{ℕ, _≤_, _<_}
+use native.Mathlib.Omega.{arith}
+use mathlib.Core.Bool.{Bool, true, false, not, _&&_, false≢true}
+use mathlib.Core.Logic.{_↔_}
+use mathlib.Core.Path.{_≡_, refl, sym}
+use borrow.Author.Tests.{eqb-false, ne-eqb, ltb-true, ltb-false}
+use lib.Dec.{eqb, ltb}
+
+-- both tests of a passed `&&` passed
+pub both : (a b : Bool) → (a && b) ≡ true → (a ≡ true) × (b ≡ true)
+both true b e = (refl, e)
+both false b e = absurd (false≢true e)
+
+-- not both tests pass exactly when the second rules the first out
+pub not-both : (a b : Bool) → not (a && b) ≡ true ↔ (b ≡ true → a ≡ false)
+not-both true true = (λ e. absurd (false≢true e), λ f. sym (f refl))
+not-both true false = (λ e h. absurd (false≢true h), λ f. refl)
+not-both false b = (λ e h. refl, λ f. refl)
+
+-- of two numbers in order, to differ is to be less
+pub differ-below : {x y : ℕ} → x ≤ y → eqb x y ≡ false ↔ x < y
+differ-below {x} {y} l = (
+  λ e.
+      let n : x ≡ y → ⊥ = eqb-false x y e in
+      omega arith,
+  λ h. ne-eqb x y (λ (e : x ≡ y). omega arith),
+)
+
+-- below or not: what follows either way
+pub either : (P : Type 0) (n m : ℕ) → (n < m → P) → (m ≤ n → P) → P
+either P n m f g = go (ltb n m) refl
+  where
+    go : (t : Bool) → ltb n m ≡ t → P
+    go true e = f (ltb-true n m e)
+    go false e = g (ltb-false n m e)

@@ -1,0 +1,1 @@
+// General definitions and lemmas, in specs/ alone: no code.

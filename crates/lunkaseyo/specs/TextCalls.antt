@@ -1,0 +1,13 @@
+-- Byte text at the boundary: the numbers that stand for each answer. Assumes nothing.
+use Prim.Native.Nat.{ℕ}
+use mathlib.Core.List.{List}
+use Rattle.laws.specs.Reply.{Reply, accepted, refused}
+
+-- the number given back and the length written: 0 on a refusal
+abbrev pub lengthOut : Reply ℕ → List ℕ → ℕ × (ℕ × List ℕ)
+lengthOut (accepted length) buf = (0, (length, buf))
+lengthOut (refused n) buf = (n, (0, buf))
+
+-- and, last, the buffer
+abbrev pub textOut : Reply ℕ × List ℕ → ℕ × (ℕ × List ℕ)
+textOut answer = lengthOut (answer .0) (answer .1)

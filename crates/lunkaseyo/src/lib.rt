@@ -1,0 +1,3 @@
+// The boundary that a host program in another language calls, with numbers and slices.
+mod sizes_calls;
+mod text_calls;

@@ -1,0 +1,37 @@
+-- `sizes::AllocationSizes::get_memblock_size` meets its contract. Assumes nothing.
+use borrow.Author.Needs.{needs}
+use mathlib.Core.Path.{sym, _∙_}
+use borrow.Author.Tests.{not-true, not-false}
+use Rattle.sizes.specs.Sizes.{ifProducible, replySize, memblockSize}
+use Rattle.sizes.specs.Sizes.{ifProducible, isProducible, memblockSize}
+use Rattle.laws.specs.Tests.{both}
+use Rattle.sizes.specs.Sizes.{ifProducible, memblockSize}
+use Rattle.sizes.specs.Reach.{ranges}
+use Rattle.sizes.proofs.AllocationSizes.get_memblock_size.Statement.{statement}
+use Rattle.sizes.proofs.AllocationSizes.get_memblock_size.Tie as tie
+
+is-producible-requires : tie.Need-is-producible-requires
+is-producible-requires c κs = search needs
+
+returns : tie.Need-returns
+unfolding ifProducible memblockSize
+returns c = rw (sym (c .before .is-producible .ensures) ∙ not-true _ (c .if1 .taken))
+
+grow-requires : tie.Need-grow-requires
+grow-requires c κs = ranges _ (sym (c .before .before .is-producible .ensures) ∙ not-false _ (c .before .if1 .left)) .1
+
+returns-2 : tie.Need-returns-2
+unfolding ifProducible memblockSize
+returns-2 c = rw (sym (c .before .before .before .is-producible .ensures) ∙ not-false _ (c .before .before .if1 .left), c .before .if2 .taken, c .grow .ensures)
+
+grow-requires-2 : tie.Need-grow-requires-2
+grow-requires-2 c κs = ranges _ (sym (c .before .before .is-producible .ensures) ∙ not-false _ (c .before .if1 .left)) .0
+
+returns-3 : tie.Need-returns-3
+unfolding ifProducible memblockSize
+returns-3 c = rw (sym (c .before .before .before .is-producible .ensures) ∙ not-false _ (c .before .before .if1 .left), c .before .if2 .left, c .grow2 .ensures)
+
+pub get-memblock-size-spec : {M : Type 1} → statement M
+get-memblock-size-spec =
+    tie.close
+    (tie.spec is-producible-requires returns grow-requires returns-2 grow-requires-2 returns-3)

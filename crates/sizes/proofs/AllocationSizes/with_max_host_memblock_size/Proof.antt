@@ -1,0 +1,30 @@
+-- `sizes::AllocationSizes::with_max_host_memblock_size` meets its contract. Assumes nothing.
+use borrow.Author.Needs.{needs}
+use mathlib.Core.Path.{sym, _∙_}
+use borrow.Author.Tests.{not-true, not-false}
+use Rattle.sizes.specs.Sizes.{ifProducible, replySizes, setMaxHost, withMaxHost}
+use Rattle.sizes.specs.Sizes.{ifProducible, setMaxHost, withMaxHost}
+use Rattle.sizes.proofs.AllocationSizes.with_max_host_memblock_size.Statement.{statement}
+use Rattle.sizes.proofs.AllocationSizes.with_max_host_memblock_size.Tie as tie
+
+is-producible-requires : tie.Need-is-producible-requires
+is-producible-requires c κs = search needs
+
+returns : tie.Need-returns
+unfolding ifProducible setMaxHost
+returns c = rw (sym (c .before .is-producible .ensures) ∙ not-true _ (c .if1 .taken))
+
+adjust-memblock-size-requires : tie.Need-adjust-memblock-size-requires
+adjust-memblock-size-requires c κs = search needs
+
+max-requires : tie.Need-max-requires
+max-requires c κs = search needs
+
+returns-2 : tie.Need-returns-2
+unfolding ifProducible setMaxHost withMaxHost
+returns-2 c = rw (sym (c .before .before .before .is-producible .ensures) ∙ not-false _ (c .before .before .if1 .left), c .max .ensures, c .before .adjust-memblock-size .ensures)
+
+pub with-max-host-memblock-size-spec : {M : Type 1} → statement M
+with-max-host-memblock-size-spec =
+    tie.close
+    (tie.spec is-producible-requires returns adjust-memblock-size-requires max-requires returns-2)

@@ -1,0 +1,3 @@
+-- What the contracts of `sizes` cite, and which sizes the calls reach.
+pub mod Sizes
+pub mod Reach

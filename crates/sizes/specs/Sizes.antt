@@ -1,0 +1,98 @@
+-- The sizes of memory blocks: what each call answers. Assumes nothing.
+use Prim.Native.Nat.{ℕ, _*_, _%_, _^_, min, max}
+use mathlib.Core.Bool.{Bool, true, false, cond, _&&_}
+use lib.Dec.{leb, eqb}
+use Rattle.laws.specs.Reply.{Reply, accepted, refused}
+use Rattle.laws.specs.Rounding.{alignUp}
+use Rattle.sizes.specs.declared.AllocationSizes.{AllocationSizes}
+use Rattle.sizes.specs.declared.BlockSize.{BlockSize}
+use Rattle.sizes.specs.declared.BlockSize.the-variants as block-size
+use Rattle.sizes.specs.declared.Changed.{Changed}
+use Rattle.sizes.specs.declared.Changed.the-variants as changed
+
+abbrev pub MiB : ℕ
+MiB = 1024 * 1024
+
+-- brought between 4 MiB and 256 MiB
+abbrev pub clamp : ℕ → ℕ
+clamp size = min (max size (4 * MiB)) (256 * MiB)
+
+-- clamped, then rounded up to 4 MiB
+unfoldable pub adjust : ℕ → ℕ
+adjust size = alignUp (clamp size) (4 * MiB)
+
+-- each maximum begins as its minimum
+unfoldable pub newSizes : ℕ → ℕ → AllocationSizes
+newSizes device host = record {
+  «min_device_memblock_size» = adjust device;
+  «max_device_memblock_size» = adjust device;
+  «min_host_memblock_size» = adjust host;
+  «max_host_memblock_size» = adjust host;
+}
+
+abbrev pub defaultSizes : AllocationSizes
+defaultSizes = record {
+  «min_device_memblock_size» = 256 * MiB;
+  «max_device_memblock_size» = 256 * MiB;
+  «min_host_memblock_size» = 64 * MiB;
+  «max_host_memblock_size» = 64 * MiB;
+}
+
+-- what adjusting can give: a multiple of 4 MiB from 4 MiB to 256 MiB
+unfoldable pub isBlockSize : ℕ → Bool
+isBlockSize size = leb (4 * MiB) size && (leb size (256 * MiB) && eqb (size % (4 * MiB)) 0)
+
+-- two block sizes, the minimum not above the maximum
+unfoldable pub isRange : ℕ → ℕ → Bool
+isRange least most = isBlockSize least && (isBlockSize most && leb least most)
+
+-- the four sizes are such that the calls can produce them (proved in `Reach`)
+unfoldable pub isProducible : AllocationSizes → Bool
+isProducible s = isRange (s .«min_device_memblock_size») (s .«max_device_memblock_size») && isRange (s .«min_host_memblock_size») (s .«max_host_memblock_size»)
+
+-- the sizes with another maximum for device blocks, never below the minimum
+unfoldable pub withMaxDevice : AllocationSizes → ℕ → AllocationSizes
+withMaxDevice s size = record {
+  «min_device_memblock_size» = s .«min_device_memblock_size»;
+  «max_device_memblock_size» = max (adjust size) (s .«min_device_memblock_size»);
+  «min_host_memblock_size» = s .«min_host_memblock_size»;
+  «max_host_memblock_size» = s .«max_host_memblock_size»;
+}
+
+-- the sizes with another maximum for host blocks, never below the minimum
+unfoldable pub withMaxHost : AllocationSizes → ℕ → AllocationSizes
+withMaxHost s size = record {
+  «min_device_memblock_size» = s .«min_device_memblock_size»;
+  «max_device_memblock_size» = s .«max_device_memblock_size»;
+  «min_host_memblock_size» = s .«min_host_memblock_size»;
+  «max_host_memblock_size» = max (adjust size) (s .«min_host_memblock_size»);
+}
+
+-- the minimum doubled with each block there is, seven times at most, capped at the maximum
+abbrev pub grown : ℕ → ℕ → ℕ → ℕ
+grown least most count = min (least * 2 ^ min count 7) most
+
+-- sizes that the calls can't produce are refused with 14
+unfoldable pub ifProducible : {A : Type 0} → AllocationSizes → A → Reply A
+ifProducible s answer = cond (isProducible s) (accepted answer) (refused 14)
+
+unfoldable pub setMaxDevice : AllocationSizes → ℕ → Reply AllocationSizes
+setMaxDevice s size = ifProducible s (withMaxDevice s size)
+
+unfoldable pub setMaxHost : AllocationSizes → ℕ → Reply AllocationSizes
+setMaxHost s size = ifProducible s (withMaxHost s size)
+
+unfoldable pub memblockSize : AllocationSizes → Bool → ℕ → Reply ℕ
+memblockSize s host count =
+    ifProducible s
+    (cond host (grown (s .«min_host_memblock_size») (s .«max_host_memblock_size») count) (grown (s .«min_device_memblock_size») (s .«max_device_memblock_size») count))
+
+-- the paper's number and values for each case of a setter's answer
+abbrev pub replySizes : Changed → Reply AllocationSizes
+replySizes (changed.Sizes s) = accepted s
+replySizes (changed.Refused n) = refused n
+
+-- and of a block size's
+abbrev pub replySize : BlockSize → Reply ℕ
+replySize (block-size.Bytes n) = accepted n
+replySize (block-size.Refused n) = refused n
