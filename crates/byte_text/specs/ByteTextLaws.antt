@@ -10,7 +10,9 @@ use Rattle.laws.specs.Decimal.{decimal, decimal-short}
 use Rattle.laws.specs.Powers.{fewer}
 use Rattle.laws.specs.Tests.{either}
 use Rattle.byte_text.specs.declared.Shown.{Shown}
-use Rattle.byte_text.specs.ByteText.{suffix, shownAs, divided, shown, hundredths, textOf, fmtBytes}
+use Rattle.byte_text.specs.declared.Written.{Written}
+use Rattle.byte_text.specs.declared.Written.the-variants.{Bytes, Refused}
+use Rattle.byte_text.specs.ByteText.{suffix, shownAs, divided, shown, hundredths, textOf, fmtBytes, reply}
 
 -- The last division is the one that comes below 1024.
 pub divided-stops : (fuel unit x : ℕ) → x / 1024 < 1024 → divided fuel unit x ≡ shownAs x 1024 unit
@@ -118,3 +120,10 @@ fmtBytes-short x h =
     let s : Shown = shown x in
     let b : hundredths s ≤ 102400 = hundredths-bound s (shown-bounded x h) in
     omega (arith, text-length (hundredths s) (s .unit), suffix-short (s .unit), decimal-short 3 (hundredths s / 100) (omega arith))
+
+-- Two answers of the call that stand for the same reply are equal.
+pub one-answer : (a b : Written) → reply a ≡ reply b → a ≡ b
+one-answer (Bytes n) (Bytes m) e = cc
+one-answer (Bytes n) (Refused m) e = cc
+one-answer (Refused n) (Bytes m) e = cc
+one-answer (Refused n) (Refused m) e = cc

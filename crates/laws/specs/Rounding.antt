@@ -1,8 +1,8 @@
 -- Rounding to a multiple, down and up. Assumes nothing.
 use Prim.Native.Nat.{ℕ, suc, _+_, _-_, _*_, _/_, _%_, _≤_, _<_}
-use native.Mathlib.Nat.{mod-lt, mod-le, div-add-mod', mul-mod-left, lt-div-mul-add, div-lt-iff-lt-mul, le-div-iff-mul-le, div-mul-le-self, mul-le-mul-right, le-trans}
+use native.Mathlib.Nat.{div-add-mod', mul-mod-left, lt-div-mul-add, div-lt-iff-lt-mul, le-div-iff-mul-le, div-mul-le-self, mul-le-mul-right, le-trans}
 use native.Mathlib.Omega.{arith}
-use mathlib.Core.Path.{_≡_, sym, ap, _∙_}
+use mathlib.Core.Path.{_≡_}
 
 -- x rounded down to a multiple of a
 unfoldable pub alignDown : ℕ → ℕ → ℕ

@@ -4,20 +4,13 @@ use mathlib.Core.Path.{_≡_, sym, ap, _∙_}
 use mathlib.Core.List.{List, [], _∷_, _++_, append-assoc}
 use native.Mathlib.Nat.{zero-add, add-assoc}
 use native.Mathlib.Omega.{arith}
-use lib.ListN.{length, take, drop, set, length-append, length-drop}
+use lib.ListN.{length, take, drop, set, length-append}
 use lib.Seq.{length-take-le, take-at, drop-append-add, drop-drop, sets, sets-eq}
 
 module _ {A : Type 0} where
   -- xs, with ys written over it from the place at on
   unfoldable pub splice : List A → ℕ → List A → List A
   splice xs at ys = take at xs ++ (ys ++ drop (at + length ys) xs)
-
-  -- Where ys fits, the length stays.
-  pub length-splice : (xs : List A) (at : ℕ) (ys : List A) → at + length ys ≤ length xs → length (splice xs at ys) ≡ length xs
-  unfolding splice
-  length-splice xs at ys h =
-      let e : length (take at xs) ≡ at = length-take-le at xs (omega arith) in
-      simp (length-append, e, length-drop) (omega arith)
 
   -- A run of stores, one place after another.
   pub splice-sets : (xs : List A) (at : ℕ) (ys : List A) → at + length ys ≤ length xs → splice xs at ys ≡ sets xs at ys

@@ -9,7 +9,7 @@ use mathlib.Core.Path.{_≡_, refl, sym, ap, _∙_, subst}
 use borrow.Author.Tests.{leb-true, eqb-true, le-leb, eq-eqb}
 use lib.Dec.{leb, eqb}
 use Rattle.laws.specs.Reply.{accepted, refused, number}
-use Rattle.laws.specs.Rounding.{LeastMultiple, alignUp, up-least}
+use Rattle.laws.specs.Rounding.{LeastMultiple, up-least}
 use Rattle.laws.specs.Tests.{both}
 use Rattle.sizes.specs.Sizes.{MiB, clamp, adjust, isBlockSize, isRange, isProducible, newSizes, defaultSizes, withMaxDevice, withMaxHost, ifProducible}
 use Rattle.sizes.specs.declared.AllocationSizes.{AllocationSizes}
@@ -19,78 +19,111 @@ pub adjust-least : (size : ℕ) → LeastMultiple (clamp size) (4 * MiB) (adjust
 unfolding adjust
 adjust-least size = up-least (clamp size) (omega arith)
 
+-- the sizes that `new`, the default and the setters give, called with numbers of 64 bits
+pub data Reachable : AllocationSizes → Type 0 where
+  new : (device host : ℕ) → device < 2 ^ 64 → host < 2 ^ 64 → Reachable (newSizes device host)
+  default : Reachable defaultSizes
+  device : {s : AllocationSizes} → Reachable s → (size : ℕ) → size < 2 ^ 64 → Reachable (withMaxDevice s size)
+  host : {s : AllocationSizes} → Reachable s → (size : ℕ) → size < 2 ^ 64 → Reachable (withMaxHost s size)
+
+-- ---- what the tests say
 -- a multiple of 4 MiB from 4 MiB to 256 MiB
-record BlockSize (n : ℕ) : Type 0 where
+record IsBlockSize (n : ℕ) : Type 0 where
   low : 4 * MiB ≤ n
   high : n ≤ 256 * MiB
   whole : n % (4 * MiB) ≡ 0
 
-told : {n : ℕ} → isBlockSize n ≡ true → BlockSize n
+-- two block sizes in order
+pub record Range (least most : ℕ) : Type 0 where
+  from : IsBlockSize least
+  to : IsBlockSize most
+  ordered : least ≤ most
+
+-- a range for the device and one for the host
+pub record Producible (s : AllocationSizes) : Type 0 where
+  pub of-device : Range (s .«min_device_memblock_size») (s .«max_device_memblock_size»)
+  pub of-host : Range (s .«min_host_memblock_size») (s .«max_host_memblock_size»)
+
+size-told : {n : ℕ} → isBlockSize n ≡ true → IsBlockSize n
 unfolding isBlockSize
-told {n} e =
+size-told {n} e =
     let p = both (leb (4 * MiB) n) (leb n (256 * MiB) && eqb (n % (4 * MiB)) 0) e in
     let q = both (leb n (256 * MiB)) (eqb (n % (4 * MiB)) 0) (p .1) in
     record { low = leb-true _ _ (p .0); high = leb-true _ _ (q .0); whole = eqb-true _ _ (q .1) }
 
-tested : {n : ℕ} → BlockSize n → isBlockSize n ≡ true
+size-tested : {n : ℕ} → IsBlockSize n → isBlockSize n ≡ true
 unfolding isBlockSize
-tested {n} b = rw (le-leb (4 * MiB) n (b .low), le-leb n (256 * MiB) (b .high), eq-eqb (n % (4 * MiB)) 0 (b .whole))
-
-pick-max : (P : ℕ → Type 0) (a b : ℕ) → P a → P b → P (max a b)
-pick-max P a b p q = go (decLe a b)
-  where
-    go : Dec (a ≤ b) → P (max a b)
-    go (yes l) = subst P (omega arith) q
-    go (no n) = subst P (omega arith) p
-
--- an adjusted size is a block size
-adjusted : (size : ℕ) → BlockSize (adjust size)
-adjusted size =
-    let l = adjust-least size in
-    record { low = omega (arith, l .above); high = l .least (256 * MiB) refl (omega arith); whole = l .multiple }
-
--- a block size is adjusted already
-settled : {n : ℕ} → BlockSize n → adjust n ≡ n
-settled {n} b =
-    let l = adjust-least n in
-    let c : clamp n ≡ n = omega (arith, b .low, b .high) in
-    le-antisymm (l .least n (b .whole) (omega arith)) (omega (arith, l .above))
-
--- two block sizes in order
-record Range (least most : ℕ) : Type 0 where
-  from : BlockSize least
-  to : BlockSize most
-  ordered : least ≤ most
+size-tested {n} b = rw (le-leb (4 * MiB) n (b .low), le-leb n (256 * MiB) (b .high), eq-eqb (n % (4 * MiB)) 0 (b .whole))
 
 range-told : {least most : ℕ} → isRange least most ≡ true → Range least most
 unfolding isRange
 range-told {least} {most} e =
     let p = both (isBlockSize least) (isBlockSize most && leb least most) e in
     let q = both (isBlockSize most) (leb least most) (p .1) in
-    record { from = told (p .0); to = told (q .0); ordered = leb-true _ _ (q .1) }
+    record { from = size-told (p .0); to = size-told (q .0); ordered = leb-true _ _ (q .1) }
 
-range-tested : {least most : ℕ} → Range least most → isRange least most ≡ true
+pub range-tested : {least most : ℕ} → Range least most → isRange least most ≡ true
 unfolding isRange
-range-tested {least} {most} r = rw (tested (r .from), tested (r .to), le-leb least most (r .ordered))
+range-tested {least} {most} r = rw (size-tested (r .from), size-tested (r .to), le-leb least most (r .ordered))
 
 pub range-least : (least most : ℕ) → isRange least most ≡ true → least ≤ 256 * MiB
 range-least least most e = range-told e .from .high
 
--- the two ranges of sizes that pass the test
-pub ranges : (s : AllocationSizes) → isProducible s ≡ true → (isRange (s .«min_device_memblock_size») (s .«max_device_memblock_size») ≡ true) × (isRange (s .«min_host_memblock_size») (s .«max_host_memblock_size») ≡ true)
+pub told : (s : AllocationSizes) → isProducible s ≡ true → Producible s
 unfolding isProducible
-ranges s e = both (isRange (s .«min_device_memblock_size») (s .«max_device_memblock_size»)) (isRange (s .«min_host_memblock_size») (s .«max_host_memblock_size»)) e
+told s e =
+    let p = both (isRange (s .«min_device_memblock_size») (s .«max_device_memblock_size»)) (isRange (s .«min_host_memblock_size») (s .«max_host_memblock_size»)) e in
+    record { of-device = range-told (p .0); of-host = range-told (p .1) }
+
+tested : {s : AllocationSizes} → Producible s → isProducible s ≡ true
+unfolding isProducible
+tested p = rw (range-tested (p .of-device), range-tested (p .of-host))
+
+-- ---- what the calls give
+-- an adjusted size is a block size
+adjusted : (size : ℕ) → IsBlockSize (adjust size)
+adjusted size =
+    let l = adjust-least size in
+    record { low = omega (arith, l .above); high = l .least (256 * MiB) refl (omega arith); whole = l .multiple }
+
+-- a new pair: the maximum begins as the minimum
+fixed : (size : ℕ) → Range (adjust size) (adjust size)
+fixed size = record { from = adjusted size; to = adjusted size; ordered = omega arith }
+
+one-of : (P : ℕ → Type 0) (a b : ℕ) → P a → P b → P (max a b)
+one-of P a b p q = go (decLe a b)
+  where
+    go : Dec (a ≤ b) → P (max a b)
+    go (yes l) = subst P (omega arith) q
+    go (no n) = subst P (omega arith) p
 
 -- a new maximum keeps a range
 widened : {least most : ℕ} (size : ℕ) → Range least most → Range least (max (adjust size) least)
-widened {least} size r =
-    let a = adjusted size in
-    let f = r .from in
-    record { from = f; to = pick-max BlockSize (adjust size) least a f; ordered = omega arith }
+widened {least} size r = record {
+  from = r .from;
+  to = one-of IsBlockSize (adjust size) least (adjusted size) (r .from);
+  ordered = omega arith;
+}
 
--- the range of a new pair: the maximum begins as the minimum
-fixed : (size : ℕ) → Range (adjust size) (adjust size)
-fixed size = record { from = adjusted size; to = adjusted size; ordered = omega arith }
+-- the default passes the test by computing
+default-accepted : isProducible defaultSizes ≡ true
+unfolding isProducible isRange isBlockSize
+default-accepted = refl
+
+produced : {s : AllocationSizes} → Reachable s → Producible s
+unfolding newSizes withMaxDevice withMaxHost
+produced (new d h _ _) = record { of-device = fixed d; of-host = fixed h }
+produced default = told defaultSizes default-accepted
+produced (device r size _) = let p = produced r in record { of-device = widened size (p .of-device); of-host = p .of-host }
+produced (host r size _) = let p = produced r in record { of-device = p .of-device; of-host = widened size (p .of-host) }
+
+-- ---- which calls give what
+-- a block size is adjusted already
+settled : {n : ℕ} → IsBlockSize n → adjust n ≡ n
+settled {n} b =
+    let l = adjust-least n in
+    let c : clamp n ≡ n = omega (arith, b .low, b .high) in
+    le-antisymm (l .least n (b .whole) (omega arith)) (omega (arith, l .above))
 
 -- a range's own maximum, set again, is that maximum
 topped : {least most : ℕ} → Range least most → max (adjust most) (adjust least) ≡ most
@@ -100,59 +133,36 @@ topped r =
     let o = r .ordered in
     omega arith
 
-word : {n : ℕ} → BlockSize n → n < 2 ^ 64
+word : {n : ℕ} → IsBlockSize n → n < 2 ^ 64
 word b = let h = b .high in omega arith
 
--- the sizes that `new`, the default and the setters give, called with numbers of 64 bits
-pub data Reachable : AllocationSizes → Type 0 where
-  new : (device host : ℕ) → device < 2 ^ 64 → host < 2 ^ 64 → Reachable (newSizes device host)
-  default : Reachable defaultSizes
-  device : {s : AllocationSizes} → Reachable s → (size : ℕ) → size < 2 ^ 64 → Reachable (withMaxDevice s size)
-  host : {s : AllocationSizes} → Reachable s → (size : ℕ) → size < 2 ^ 64 → Reachable (withMaxHost s size)
-
-both-ranges : (s : AllocationSizes) → Range (s .«min_device_memblock_size») (s .«max_device_memblock_size») → Range (s .«min_host_memblock_size») (s .«max_host_memblock_size») → isProducible s ≡ true
-unfolding isProducible
-both-ranges s d h = rw (range-tested d, range-tested h)
-
-default-accepted : isProducible defaultSizes ≡ true
-unfolding isProducible isRange isBlockSize
-default-accepted = refl
-
--- Whatever the calls give is accepted.
-pub reachable-accepted : {s : AllocationSizes} → Reachable s → isProducible s ≡ true
-unfolding newSizes withMaxDevice withMaxHost
-reachable-accepted (new d h _ _) = both-ranges (newSizes d h) (fixed d) (fixed h)
-reachable-accepted default = default-accepted
-reachable-accepted (device {s} r size _) =
-    let q = ranges s (reachable-accepted r) in
-    both-ranges (withMaxDevice s size) (widened size (range-told (q .0))) (range-told (q .1))
-reachable-accepted (host {s} r size _) =
-    let q = ranges s (reachable-accepted r) in
-    both-ranges (withMaxHost s size) (range-told (q .0)) (widened size (range-told (q .1)))
-
--- the four calls that give a pair of ranges
+-- both minima, then each maximum
 calls : AllocationSizes → AllocationSizes
 calls s = withMaxHost (withMaxDevice (newSizes (s .«min_device_memblock_size») (s .«min_host_memblock_size»)) (s .«max_device_memblock_size»)) (s .«max_host_memblock_size»)
 
-calls-give : (s : AllocationSizes) → Range (s .«min_device_memblock_size») (s .«max_device_memblock_size») → Range (s .«min_host_memblock_size») (s .«max_host_memblock_size») → calls s ≡ s
+calls-give : (s : AllocationSizes) → Producible s → calls s ≡ s
 unfolding calls withMaxHost withMaxDevice newSizes
-calls-give s d h =
+calls-give s p =
     λ i. record {
-      «min_device_memblock_size» = settled (d .from) i;
-      «max_device_memblock_size» = topped d i;
-      «min_host_memblock_size» = settled (h .from) i;
-      «max_host_memblock_size» = topped h i;
+      «min_device_memblock_size» = settled (p .of-device .from) i;
+      «max_device_memblock_size» = topped (p .of-device) i;
+      «min_host_memblock_size» = settled (p .of-host .from) i;
+      «max_host_memblock_size» = topped (p .of-host) i;
     }
+
+calls-reach : (s : AllocationSizes) → Producible s → Reachable (calls s)
+unfolding calls
+calls-reach s p =
+    host (device (new _ _ (word (p .of-device .from)) (word (p .of-host .from))) _ (word (p .of-device .to))) _ (word (p .of-host .to))
+
+-- ---- the accepted sizes are the reachable ones
+-- Whatever the calls give is accepted.
+pub reachable-accepted : {s : AllocationSizes} → Reachable s → isProducible s ≡ true
+reachable-accepted r = tested (produced r)
 
 -- Whatever is accepted, some calls give.
 pub accepted-reachable : (s : AllocationSizes) → isProducible s ≡ true → Reachable s
-unfolding calls
-accepted-reachable s e =
-    let q = ranges s e in
-    let d = range-told (q .0) in
-    let h = range-told (q .1) in
-    subst Reachable (calls-give s d h)
-    (host (device (new (s .«min_device_memblock_size») (s .«min_host_memblock_size») (word (d .from)) (word (h .from))) (s .«max_device_memblock_size») (word (d .to))) (s .«max_host_memblock_size») (word (h .to)))
+accepted-reachable s e = let p = told s e in subst Reachable (calls-give s p) (calls-reach s p)
 
 -- So a setter or a question answers 14 exactly on sizes that no calls give.
 pub refused-exactly : {A : Type 0} (s : AllocationSizes) (answer : A) → ifProducible s answer ≡ refused 14 ↔ (Reachable s → ⊥)

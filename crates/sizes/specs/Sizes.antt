@@ -1,6 +1,7 @@
 -- The sizes of memory blocks: what each call answers. Assumes nothing.
 use Prim.Native.Nat.{ℕ, _*_, _%_, _^_, min, max}
-use mathlib.Core.Bool.{Bool, true, false, cond, _&&_}
+use mathlib.Core.Bool.{Bool, cond, _&&_}
+use mathlib.Core.Path.{_≡_}
 use lib.Dec.{leb, eqb}
 use Rattle.laws.specs.Reply.{Reply, accepted, refused}
 use Rattle.laws.specs.Rounding.{alignUp}
@@ -96,3 +97,17 @@ replySizes (changed.Refused n) = refused n
 abbrev pub replySize : BlockSize → Reply ℕ
 replySize (block-size.Bytes n) = accepted n
 replySize (block-size.Refused n) = refused n
+
+-- Two answers of a setter that stand for the same reply are equal.
+pub one-change : (a b : Changed) → replySizes a ≡ replySizes b → a ≡ b
+one-change (changed.Sizes s) (changed.Sizes t) e = cc
+one-change (changed.Sizes s) (changed.Refused n) e = cc
+one-change (changed.Refused n) (changed.Sizes t) e = cc
+one-change (changed.Refused n) (changed.Refused m) e = cc
+
+-- And two of a block size's.
+pub one-size : (a b : BlockSize) → replySize a ≡ replySize b → a ≡ b
+one-size (block-size.Bytes n) (block-size.Bytes m) e = cc
+one-size (block-size.Bytes n) (block-size.Refused m) e = cc
+one-size (block-size.Refused n) (block-size.Bytes m) e = cc
+one-size (block-size.Refused n) (block-size.Refused m) e = cc

@@ -1,5 +1,4 @@
 -- `pages::align_down` meets its contract: the mask is the remainder form. Assumes nothing.
-use native.Mathlib.Omega.{arith}
 use Rattle.laws.specs.Powers.{pow64-pos}
 use Rattle.pages.specs.Mask.{mask, mask-down}
 use Rattle.pages.specs.Pages.{power-of-two}

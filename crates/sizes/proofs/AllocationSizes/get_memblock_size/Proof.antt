@@ -2,11 +2,8 @@
 use borrow.Author.Needs.{needs}
 use mathlib.Core.Path.{sym, _∙_}
 use borrow.Author.Tests.{not-true, not-false}
-use Rattle.sizes.specs.Sizes.{ifProducible, replySize, memblockSize}
-use Rattle.sizes.specs.Sizes.{ifProducible, isProducible, memblockSize}
-use Rattle.laws.specs.Tests.{both}
 use Rattle.sizes.specs.Sizes.{ifProducible, memblockSize}
-use Rattle.sizes.specs.Reach.{ranges}
+use Rattle.sizes.specs.Reach.{range-tested, told}
 use Rattle.sizes.proofs.AllocationSizes.get_memblock_size.Statement.{statement}
 use Rattle.sizes.proofs.AllocationSizes.get_memblock_size.Tie as tie
 
@@ -18,14 +15,14 @@ unfolding ifProducible memblockSize
 returns c = rw (sym (c .before .is-producible .ensures) ∙ not-true _ (c .if1 .taken))
 
 grow-requires : tie.Need-grow-requires
-grow-requires c κs = ranges _ (sym (c .before .before .is-producible .ensures) ∙ not-false _ (c .before .if1 .left)) .1
+grow-requires c κs = range-tested (told _ (sym (c .before .before .is-producible .ensures) ∙ not-false _ (c .before .if1 .left)) .of-host)
 
 returns-2 : tie.Need-returns-2
 unfolding ifProducible memblockSize
 returns-2 c = rw (sym (c .before .before .before .is-producible .ensures) ∙ not-false _ (c .before .before .if1 .left), c .before .if2 .taken, c .grow .ensures)
 
 grow-requires-2 : tie.Need-grow-requires-2
-grow-requires-2 c κs = ranges _ (sym (c .before .before .is-producible .ensures) ∙ not-false _ (c .before .if1 .left)) .0
+grow-requires-2 c κs = range-tested (told _ (sym (c .before .before .is-producible .ensures) ∙ not-false _ (c .before .if1 .left)) .of-device)
 
 returns-3 : tie.Need-returns-3
 unfolding ifProducible memblockSize

@@ -2,7 +2,6 @@
 use borrow.Author.Needs.{needs}
 use mathlib.Core.Path.{sym, _∙_}
 use borrow.Author.Tests.{not-true, not-false}
-use Rattle.sizes.specs.Sizes.{ifProducible, replySizes, setMaxHost, withMaxHost}
 use Rattle.sizes.specs.Sizes.{ifProducible, setMaxHost, withMaxHost}
 use Rattle.sizes.proofs.AllocationSizes.with_max_host_memblock_size.Statement.{statement}
 use Rattle.sizes.proofs.AllocationSizes.with_max_host_memblock_size.Tie as tie

@@ -1,0 +1,101 @@
+//! The archive's functions one to one, each behind a signature that makes it safe to call.
+//!
+//! They answer plain numbers: 0 for accepted or a refusal's number, and out-values that are all
+//! zeros on a refusal. `lunkaseyo.h` says what each answers. The rest of this crate puts types on
+//! them; call these only to see the numbers.
+
+/// Block sizes as they cross: minimum and maximum for the device, then both for the host.
+pub type Words = [u64; 4];
+
+mod archive {
+    use super::Words;
+
+    extern "C" {
+        pub fn lunkaseyo_fmt_bytes(
+            amount: u64,
+            buf: *mut u8,
+            buf_len: usize,
+            length: &mut u64,
+        ) -> u64;
+        pub fn lunkaseyo_sizes_new(
+            device_memblock_size: u64,
+            host_memblock_size: u64,
+            sizes: &mut Words,
+        );
+        pub fn lunkaseyo_sizes_default(sizes: &mut Words);
+        pub fn lunkaseyo_sizes_with_max_device_memblock_size(
+            min_device: u64,
+            max_device: u64,
+            min_host: u64,
+            max_host: u64,
+            size: u64,
+            sizes: &mut Words,
+        ) -> u64;
+        pub fn lunkaseyo_sizes_with_max_host_memblock_size(
+            min_device: u64,
+            max_device: u64,
+            min_host: u64,
+            max_host: u64,
+            size: u64,
+            sizes: &mut Words,
+        ) -> u64;
+        pub fn lunkaseyo_sizes_get_memblock_size(
+            min_device: u64,
+            max_device: u64,
+            min_host: u64,
+            max_host: u64,
+            is_host: u64,
+            count: u64,
+            size: &mut u64,
+        ) -> u64;
+    }
+}
+
+// SAFETY, of every call below: the functions are proved to touch nothing but the memory lent to
+// them, and to return. What they ask of the caller, valid pointers to memory that does not overlap,
+// is what `&mut` says.
+
+/// `lunkaseyo_fmt_bytes`
+pub fn fmt_bytes(amount: u64, buf: &mut [u8], length: &mut u64) -> u64 {
+    unsafe { archive::lunkaseyo_fmt_bytes(amount, buf.as_mut_ptr(), buf.len(), length) }
+}
+
+/// `lunkaseyo_sizes_new`
+pub fn sizes_new(device_memblock_size: u64, host_memblock_size: u64, sizes: &mut Words) {
+    unsafe { archive::lunkaseyo_sizes_new(device_memblock_size, host_memblock_size, sizes) }
+}
+
+/// `lunkaseyo_sizes_default`
+pub fn sizes_default(sizes: &mut Words) {
+    unsafe { archive::lunkaseyo_sizes_default(sizes) }
+}
+
+/// `lunkaseyo_sizes_with_max_device_memblock_size`
+pub fn sizes_with_max_device_memblock_size(from: Words, size: u64, sizes: &mut Words) -> u64 {
+    let [min_device, max_device, min_host, max_host] = from;
+    unsafe {
+        archive::lunkaseyo_sizes_with_max_device_memblock_size(
+            min_device, max_device, min_host, max_host, size, sizes,
+        )
+    }
+}
+
+/// `lunkaseyo_sizes_with_max_host_memblock_size`
+pub fn sizes_with_max_host_memblock_size(from: Words, size: u64, sizes: &mut Words) -> u64 {
+    let [min_device, max_device, min_host, max_host] = from;
+    unsafe {
+        archive::lunkaseyo_sizes_with_max_host_memblock_size(
+            min_device, max_device, min_host, max_host, size, sizes,
+        )
+    }
+}
+
+/// `lunkaseyo_sizes_get_memblock_size`
+pub fn sizes_get_memblock_size(from: Words, is_host: u64, count: u64, size: &mut u64) -> u64 {
+    let [min_device, max_device, min_host, max_host] = from;
+    unsafe {
+        archive::lunkaseyo_sizes_get_memblock_size(
+            min_device, max_device, min_host, max_host, is_host, count, size,
+        )
+    }
+}

@@ -1,0 +1,30 @@
+//! Memory blocks of a GPU: the leaf parts of gpu-allocator, proved in Rattle and called here from
+//! safe Rust.
+//!
+//! - [`AllocationSizes`]: how large the next memory block is to be.
+//! - [`fmt_bytes`] and [`byte_text`]: an amount of memory as text.
+//!
+//! A call that cannot be answered gives a [`Refusal`] with its number, and changes nothing.
+//!
+//! ```
+//! use lunkaseyo::{byte_text, AllocationSizes, Refusal};
+//!
+//! # fn main() -> Result<(), Refusal> {
+//! const MB: u64 = 1024 * 1024;
+//! let sizes = AllocationSizes::new(8 * MB, 8 * MB).with_max_device_memblock_size(256 * MB)?;
+//! let third = sizes.get_memblock_size(false, 2)?;
+//! assert_eq!(byte_text(third)?.as_str(), "32.00 MB");
+//! # Ok(())
+//! # }
+//! ```
+#![deny(missing_docs, unsafe_code)]
+
+#[allow(unsafe_code)]
+pub mod ffi;
+mod refusal;
+mod sizes;
+mod text;
+
+pub use refusal::Refusal;
+pub use sizes::AllocationSizes;
+pub use text::{byte_text, fmt_bytes, ByteText};

@@ -1,0 +1,44 @@
+//! Why a call was refused.
+
+use std::error::Error;
+use std::fmt;
+use std::num::NonZeroU64;
+
+/// A call was refused, and changed nothing.
+///
+/// ```
+/// let refusal = lunkaseyo::byte_text(1 << 50).unwrap_err();
+/// assert_eq!(refusal.number(), 15);
+/// assert_eq!(refusal.to_string(), "refusal 15: the amount is 2^50 bytes or more");
+/// ```
+#[derive(Clone, Copy, Debug, PartialEq, Eq, Hash)]
+pub struct Refusal(NonZeroU64);
+
+impl Refusal {
+    /// The refusal's number, never 0. Each number has one meaning, whichever call gives it.
+    pub fn number(self) -> u64 {
+        self.0.get()
+    }
+
+    fn reason(self) -> &'static str {
+        match self.number() {
+            14 => "the block-size rules cannot produce these sizes",
+            15 => "the amount is 2^50 bytes or more",
+            16 => "the buffer is too short for the text",
+            _ => "no reason is known for this number",
+        }
+    }
+}
+
+impl fmt::Display for Refusal {
+    fn fmt(&self, f: &mut fmt::Formatter<'_>) -> fmt::Result {
+        write!(f, "refusal {}: {}", self.number(), self.reason())
+    }
+}
+
+impl Error for Refusal {}
+
+/// Takes the number that a call of the archive answered, 0 meaning accepted.
+pub(crate) fn accepted(number: u64) -> Result<(), Refusal> {
+    NonZeroU64::new(number).map_or(Ok(()), |number| Err(Refusal(number)))
+}

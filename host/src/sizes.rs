@@ -1,0 +1,110 @@
+//! The sizes of memory blocks.
+
+use crate::ffi::{self, Words};
+use crate::refusal::{accepted, Refusal};
+
+/// The sizes of the memory blocks that an allocator opens.
+///
+/// Sizes are clamped to 4 MiB..256 MiB and rounded up to a multiple of 4 MiB. A maximum is never
+/// below its minimum. The fields can be set to anything; sizes that these rules cannot produce are
+/// refused, with number 14, when they are changed or asked.
+///
+/// ```
+/// use lunkaseyo::AllocationSizes;
+/// const MB: u64 = 1024 * 1024;
+///
+/// // Blocks of one size.
+/// let fixed = AllocationSizes::new(256 * MB, 64 * MB);
+/// assert_eq!(fixed, AllocationSizes::default());
+/// assert_eq!(fixed.get_memblock_size(true, 3), Ok(64 * MB));
+///
+/// // Blocks that grow from 8 MiB, up to 64 MiB for the host.
+/// let growing = AllocationSizes::new(8 * MB, 8 * MB).with_max_host_memblock_size(64 * MB)?;
+/// assert_eq!(growing.get_memblock_size(true, 1), Ok(16 * MB));
+/// assert_eq!(growing.get_memblock_size(true, 9), Ok(64 * MB));
+///
+/// let odd = AllocationSizes { max_host_memblock_size: 5 * MB, ..growing };
+/// assert_eq!(odd.get_memblock_size(false, 0).unwrap_err().number(), 14);
+/// # Ok::<(), lunkaseyo::Refusal>(())
+/// ```
+#[derive(Clone, Copy, Debug, PartialEq, Eq, Hash)]
+pub struct AllocationSizes {
+    /// The size of the first device memory block.
+    pub min_device_memblock_size: u64,
+    /// The size that device memory blocks grow to.
+    pub max_device_memblock_size: u64,
+    /// The size of the first host memory block.
+    pub min_host_memblock_size: u64,
+    /// The size that host memory blocks grow to.
+    pub max_host_memblock_size: u64,
+}
+
+impl AllocationSizes {
+    /// Blocks of one size for the device and one for the host, each brought into the rules.
+    pub fn new(device_memblock_size: u64, host_memblock_size: u64) -> Self {
+        let mut words = Words::default();
+        ffi::sizes_new(device_memblock_size, host_memblock_size, &mut words);
+        words.into()
+    }
+
+    /// The same sizes with device blocks growing to `size`, brought into the rules and to the
+    /// minimum at least.
+    pub fn with_max_device_memblock_size(self, size: u64) -> Result<Self, Refusal> {
+        self.changed(ffi::sizes_with_max_device_memblock_size, size)
+    }
+
+    /// The same sizes with host blocks growing to `size`, brought into the rules and to the
+    /// minimum at least.
+    pub fn with_max_host_memblock_size(self, size: u64) -> Result<Self, Refusal> {
+        self.changed(ffi::sizes_with_max_host_memblock_size, size)
+    }
+
+    /// The size of the next block, for the host or the device, where `count` blocks are open: the
+    /// minimum doubled for each of them, at most the maximum.
+    pub fn get_memblock_size(self, is_host: bool, count: u64) -> Result<u64, Refusal> {
+        let mut size = 0;
+        let number =
+            ffi::sizes_get_memblock_size(self.into(), u64::from(is_host), count, &mut size);
+        accepted(number).map(|()| size)
+    }
+
+    fn changed(
+        self,
+        setter: fn(Words, u64, &mut Words) -> u64,
+        size: u64,
+    ) -> Result<Self, Refusal> {
+        let mut words = Words::default();
+        accepted(setter(self.into(), size, &mut words)).map(|()| words.into())
+    }
+}
+
+impl Default for AllocationSizes {
+    /// 256 MiB for the device, 64 MiB for the host.
+    fn default() -> Self {
+        let mut words = Words::default();
+        ffi::sizes_default(&mut words);
+        words.into()
+    }
+}
+
+impl From<Words> for AllocationSizes {
+    fn from([min_device, max_device, min_host, max_host]: Words) -> Self {
+        Self {
+            min_device_memblock_size: min_device,
+            max_device_memblock_size: max_device,
+            min_host_memblock_size: min_host,
+            max_host_memblock_size: max_host,
+        }
+    }
+}
+
+impl From<AllocationSizes> for Words {
+    fn from(sizes: AllocationSizes) -> Self {
+        [
+            sizes.min_device_memblock_size,
+            sizes.max_device_memblock_size,
+            sizes.min_host_memblock_size,
+            sizes.max_host_memblock_size,
+        ]
+    }
+}
