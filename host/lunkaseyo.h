@@ -6,7 +6,7 @@
  * and leaves `buf` as it was. What an out-value held before the call never matters.
  *
  * Pointers. No pointer may be NULL. Each points to memory of the caller, aligned as its type asks, that is there for the
- * whole call: one value behind `length` and `size`, four behind `sizes`, `buf_len` bytes behind `buf`. Where `buf_len` is 0
+ * whole call: one value behind `written` and `size`, four behind `sizes`, `buf_len` bytes behind `buf`. Where `buf_len` is 0
  * nothing is read or written behind `buf`, and any pointer that is not NULL will do. Two pointers of one call must not
  * reach the same memory. Nothing is kept after the call, and there is no state: any thread may call at any time.
  */
@@ -22,10 +22,10 @@ extern "C" {
 
 /*
  * An amount of memory as text: "1023.00 B", "1.50 KB", and so on to TB, at most 10 bytes, with no zero byte at its end.
- * The text goes to the front of the `buf_len` bytes at `buf`, the bytes after it are kept, and `length` gets its length.
+ * The text goes to the front of the `buf_len` bytes at `buf`, the bytes after it are kept, and `written` gets its length.
  * Refusals: 15 the amount is 2^50 or more, 16 the buffer is too short.
  */
-uint64_t lunkaseyo_fmt_bytes(uint64_t amount, uint8_t *buf, size_t buf_len, uint64_t *length);
+uint64_t lunkaseyo_fmt_bytes(uint64_t amount, uint8_t *buf, size_t buf_len, uint64_t *written);
 
 /*
  * Block sizes are four numbers: the size of the first block and the size that blocks grow to, for the device and then for

@@ -15,7 +15,7 @@ mod archive {
             amount: u64,
             buf: *mut u8,
             buf_len: usize,
-            length: &mut u64,
+            written: &mut u64,
         ) -> u64;
         pub fn lunkaseyo_sizes_new(
             device_memblock_size: u64,
@@ -56,8 +56,8 @@ mod archive {
 // is what `&mut` says.
 
 /// `lunkaseyo_fmt_bytes`
-pub fn fmt_bytes(amount: u64, buf: &mut [u8], length: &mut u64) -> u64 {
-    unsafe { archive::lunkaseyo_fmt_bytes(amount, buf.as_mut_ptr(), buf.len(), length) }
+pub fn fmt_bytes(amount: u64, buf: &mut [u8], written: &mut u64) -> u64 {
+    unsafe { archive::lunkaseyo_fmt_bytes(amount, buf.as_mut_ptr(), buf.len(), written) }
 }
 
 /// `lunkaseyo_sizes_new`

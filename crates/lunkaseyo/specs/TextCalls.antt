@@ -3,11 +3,11 @@ use Prim.Native.Nat.{ℕ}
 use mathlib.Core.List.{List}
 use Rattle.laws.specs.Reply.{Reply, accepted, refused}
 
--- the number given back and the length written: 0 on a refusal
-abbrev pub lengthOut : Reply ℕ → List ℕ → ℕ × (ℕ × List ℕ)
-lengthOut (accepted length) buf = (0, (length, buf))
-lengthOut (refused n) buf = (n, (0, buf))
+-- the number given back and the bytes written: 0 on a refusal
+abbrev pub bytesOut : Reply ℕ → List ℕ → ℕ × (ℕ × List ℕ)
+bytesOut (accepted bytes) buf = (0, (bytes, buf))
+bytesOut (refused n) buf = (n, (0, buf))
 
 -- and, last, the buffer
 abbrev pub textOut : Reply ℕ × List ℕ → ℕ × (ℕ × List ℕ)
-textOut answer = lengthOut (answer .0) (answer .1)
+textOut answer = bytesOut (answer .0) (answer .1)

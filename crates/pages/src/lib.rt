@@ -5,7 +5,7 @@ ghost use Prim.Native.Nat.{_+_, _-_, _^_, _<_};
 ghost use Rattle.laws.specs.Rounding.{alignDown, alignUp};
 ghost use Rattle.pages.specs.Pages.{isPowerOfTwo, isOnSamePage, hasGranularityConflict};
 
-// Every call of the boundary tests its alignment and granularity with this.
+// The test that a public entry makes of an alignment or a granularity.
 pub fn is_power_of_two(x: u64) -> bool
     ensures { λ r. ⌜ r ≡ isPowerOfTwo x ⌝ }
 {
