@@ -52,6 +52,10 @@ next-unit : fmtBytes 1048576 ≡ bytes "1.00 MB"
 unfolding call
 next-unit = refl
 
+third-unit : fmtBytes (2 ^ 30) ≡ bytes "1.00 GB"
+unfolding call
+third-unit = refl
+
 largest : fmtBytes (2 ^ 50 - 1) ≡ bytes "1024.00 TB"
 unfolding call
 largest = refl
@@ -69,6 +73,10 @@ just-fits = refl
 one-too-short : fmtBytesInto 1536 (replicate 6 7) ≡ (refused 16, replicate 6 7)
 unfolding call
 one-too-short = refl
+
+last-taken : fmtBytesInto (2 ^ 50 - 1) (replicate 10 7) ≡ (accepted 10, bytes "1024.00 TB")
+unfolding call
+last-taken = refl
 
 too-much : fmtBytesInto (2 ^ 50) (replicate 12 7) ≡ (refused 15, replicate 12 7)
 unfolding call

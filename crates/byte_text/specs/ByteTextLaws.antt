@@ -25,7 +25,7 @@ pub divided-goes-on : (fuel unit x : ℕ) → 1024 ≤ x / 1024 → divided (suc
 unfolding divided
 divided-goes-on fuel unit x h = rw (le-ltb (x / 1024) 1024 h)
 
--- s shows x, divided by 1024 once for each unit from the first on, as an amount from 1024 up to 1024 * 1024, over 1024
+-- s shows x, divided by 1024 once for each unit from the first on, as an amount from 1024 to below 1024 * 1024, over 1024
 pub record Scaled (first last x : ℕ) (s : Shown) : Type 0 where
   pub whole : s .amount ≡ x / 1024 ^ (s .unit - first)
   pub low : 1024 ≤ s .amount
@@ -68,7 +68,7 @@ pub shown-divided : (x : ℕ) → 1024 ≤ x → shown x ≡ divided 3 1 x
 unfolding shown
 shown-divided x h = rw (le-ltb x 1024 h)
 
--- From 1024 on the amount shown is x / 1024 ^ (unit - 1), from 1024 up to 1024 * 1024, over 1024, in a unit from 1 to 4.
+-- From 1024 on the amount shown is x / 1024 ^ (unit - 1), from 1024 to below 1024 * 1024, over 1024, in a unit from 1 to 4.
 pub shown-large : (x : ℕ) → 1024 ≤ x → x < 2 ^ 50 → Scaled 1 4 x (shown x)
 shown-large x l h = rw (shown-divided x l) (divided-scaled 3 1 4 x refl l h)
 
@@ -99,7 +99,7 @@ hundredths-bound s b =
     let most : ¬ (102401 ≤ hundredths s) = λ l. omega (arith, mul-le-mul-right (s .over) l) in
     omega arith
 
--- A unit's name has one or two letters.
+-- A unit's name has at most two letters.
 pub suffix-short : (unit : ℕ) → length (suffix unit) ≤ 2
 unfolding suffix
 suffix-short zero = omega arith

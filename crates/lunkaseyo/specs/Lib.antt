@@ -1,3 +1,4 @@
 -- What the contracts of the boundary cite.
 pub mod SizesCalls
 pub mod TextCalls
+pub mod CallsExamples

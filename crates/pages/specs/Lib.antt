@@ -2,3 +2,4 @@
 pub mod Pages
 pub mod Mask
 pub mod Vulkan
+pub mod PagesExamples

@@ -34,7 +34,7 @@ startPage granularity B = mask (B .offset) granularity
 abbrev pub PagesApart : ℕ → Resource → Resource → Type 0
 PagesApart granularity A B = endPage granularity A < startPage granularity B
 
--- one resource is linear and the other is not
+-- one resource is linear and the other non-linear
 abbrev pub OneLinear : Resource → Resource → Type 0
 OneLinear A B = ((A .kind ≡ 1) × (B .kind ≡ 2)) ⊎ ((A .kind ≡ 2) × (B .kind ≡ 1))
 
@@ -42,9 +42,8 @@ OneLinear A B = ((A .kind ≡ 1) × (B .kind ≡ 2)) ⊎ ((A .kind ≡ 2) × (B 
 unfoldable pub mayStand : ℕ → Resource → Resource → Bool
 mayStand granularity A B = not (isOnSamePage (A .offset) (A .size) (B .offset) granularity && hasGranularityConflict (A .kind) (B .kind))
 
--- A is not empty and lies wholly below B, in a block that 64-bit words can address
+-- A lies wholly below B, in a block that 64-bit words can address
 pub record Below (A B : Resource) : Type 0 where
-  pub some : 1 ≤ A .size
   pub under : A .offset + A .size ≤ B .offset
   pub reach : B .offset < 2 ^ 64
 
@@ -54,7 +53,7 @@ one-or-two (suc zero) l n = inl refl
 one-or-two (suc (suc zero)) l n = inr refl
 one-or-two (suc (suc (suc k))) l n = absurd (omega arith)
 
--- Of the kinds 0 to 2 two conflict exactly when one is linear and the other is not.
+-- Of the kinds 0 to 2 two conflict exactly when one is linear and the other non-linear.
 pub conflict-linear : (A B : Resource) → A .kind ≤ 2 → B .kind ≤ 2 → hasGranularityConflict (A .kind) (B .kind) ≡ true ↔ OneLinear A B
 unfolding hasGranularityConflict
 conflict-linear A B la lb = (λ e. told e, ⊎-elim (λ w. rw (w .0, w .1)) (λ w. rw (w .0, w .1)))
@@ -69,7 +68,7 @@ conflict-linear A B la lb = (λ e. told e, ⊎-elim (λ w. rw (w .0, w .1)) (λ 
 
 module _ (granularity : ℕ) (A B : Resource) (p : Pow64 granularity) (h : Below A B) where
   ordered : alignDown (end A) granularity ≤ alignDown (B .offset) granularity
-  ordered = let l = h .some in let u = h .under in down-mono (pow64-pos p) (omega arith)
+  ordered = let u = h .under in down-mono (pow64-pos p) (omega arith)
 
   end-page : endPage granularity A ≡ alignDown (end A) granularity
   end-page = let u = h .under in let r = h .reach in mask-down (end A) (omega arith) p

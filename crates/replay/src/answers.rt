@@ -1,4 +1,5 @@
-// Whether the functions answer as a recorded line says. A line outside their domain agrees with nothing.
+// Whether the functions answer as a recorded line says. A line with a range of no bytes, or outside their domain, agrees with
+// nothing.
 
 fn align_down_agrees(val: u64, alignment: u64, answer: u64) -> bool {
     if !pages::is_power_of_two(alignment) {

@@ -3,15 +3,14 @@ use Prim.Native.Nat.{ℕ, _*_, _%_, _^_, _≤_, _<_, max}
 use native.Mathlib.Decide.{decLe}
 use native.Mathlib.Nat.{le-antisymm}
 use native.Mathlib.Omega.{arith}
-use mathlib.Core.Bool.{Bool, true, false, cond, _&&_, false≢true}
-use mathlib.Core.Logic.{_↔_}
-use mathlib.Core.Path.{_≡_, refl, sym, ap, _∙_, subst}
+use mathlib.Core.Bool.{Bool, true, false, _&&_}
+use mathlib.Core.Path.{_≡_, refl, subst}
 use borrow.Author.Tests.{leb-true, eqb-true, le-leb, eq-eqb}
 use lib.Dec.{leb, eqb}
-use Rattle.laws.specs.Reply.{accepted, refused, number}
+use Rattle.laws.specs.Reply.{Reply, accepted, refused}
 use Rattle.laws.specs.Rounding.{LeastMultiple, up-least}
 use Rattle.laws.specs.Tests.{both}
-use Rattle.sizes.specs.Sizes.{MiB, clamp, adjust, isBlockSize, isRange, isProducible, newSizes, defaultSizes, withMaxDevice, withMaxHost, ifProducible}
+use Rattle.sizes.specs.Sizes.{MiB, clamp, adjust, isBlockSize, isRange, isProducible, newSizes, defaultSizes, withMaxDevice, withMaxHost, ifProducible, setMaxDevice, setMaxHost, nextSize, memblockSize}
 use Rattle.sizes.specs.declared.AllocationSizes.{AllocationSizes}
 
 -- An adjusted size is the least multiple of 4 MiB at or above the clamped size.
@@ -164,11 +163,31 @@ reachable-accepted r = tested (produced r)
 pub accepted-reachable : (s : AllocationSizes) → isProducible s ≡ true → Reachable s
 accepted-reachable s e = let p = told s e in subst Reachable (calls-give s p) (calls-reach s p)
 
--- So a setter or a question answers 14 exactly on sizes that no calls give.
-pub refused-exactly : {A : Type 0} (s : AllocationSizes) (answer : A) → ifProducible s answer ≡ refused 14 ↔ (Reachable s → ⊥)
+-- ---- what each call answers on which sizes
+-- accepted with these values where some calls give the sizes, and refused with 14 where none do
+pub record Exactly {A : Type 0} (s : AllocationSizes) (values : A) (answer : Reply A) : Type 0 where
+  pub accepts : Reachable s → answer ≡ accepted values
+  pub refuses : (Reachable s → ⊥) → answer ≡ refused 14
+
+exactly : {A : Type 0} (s : AllocationSizes) (values : A) → Exactly s values (ifProducible s values)
 unfolding ifProducible
-refused-exactly s answer = go (isProducible s) refl
+exactly s values = record { accepts = λ r. rw (reachable-accepted r); refuses = λ n. rw (not-accepted (isProducible s) refl n) }
   where
-    go : (t : Bool) → isProducible s ≡ t → cond (isProducible s) (accepted answer) (refused 14) ≡ refused 14 ↔ (Reachable s → ⊥)
-    go true e = rw e (λ w. absurd (let z : _≡_ {A = ℕ} 0 14 = ap number w in omega arith), λ f. absurd (f (accepted-reachable s e)))
-    go false e = (λ w r. absurd (false≢true (sym e ∙ reachable-accepted r)), λ f. rw e)
+    not-accepted : (t : Bool) → isProducible s ≡ t → (Reachable s → ⊥) → isProducible s ≡ false
+    not-accepted true e n = absurd (n (accepted-reachable s e))
+    not-accepted false e n = e
+
+-- Setting the maximum of device blocks.
+pub device-exactly : (s : AllocationSizes) (size : ℕ) → Exactly s (withMaxDevice s size) (setMaxDevice s size)
+unfolding setMaxDevice
+device-exactly s size = exactly s (withMaxDevice s size)
+
+-- Setting the maximum of host blocks.
+pub host-exactly : (s : AllocationSizes) (size : ℕ) → Exactly s (withMaxHost s size) (setMaxHost s size)
+unfolding setMaxHost
+host-exactly s size = exactly s (withMaxHost s size)
+
+-- Asking for the next block's size.
+pub size-exactly : (s : AllocationSizes) (is-host : Bool) (count : ℕ) → Exactly s (nextSize s is-host count) (memblockSize s is-host count)
+unfolding memblockSize
+size-exactly s is-host count = exactly s (nextSize s is-host count)

@@ -1,6 +1,6 @@
 -- The sizes of memory blocks: what each call answers. Assumes nothing.
 use Prim.Native.Nat.{ℕ, _*_, _%_, _^_, min, max}
-use mathlib.Core.Bool.{Bool, cond, _&&_}
+use mathlib.Core.Bool.{Bool, true, false, cond, _&&_}
 use mathlib.Core.Path.{_≡_}
 use lib.Dec.{leb, eqb}
 use Rattle.laws.specs.Reply.{Reply, accepted, refused}
@@ -83,10 +83,13 @@ setMaxDevice s size = ifProducible s (withMaxDevice s size)
 unfoldable pub setMaxHost : AllocationSizes → ℕ → Reply AllocationSizes
 setMaxHost s size = ifProducible s (withMaxHost s size)
 
+-- the size of the next block, where there are `count`
+abbrev pub nextSize : AllocationSizes → Bool → ℕ → ℕ
+nextSize s true count = grown (s .«min_host_memblock_size») (s .«max_host_memblock_size») count
+nextSize s false count = grown (s .«min_device_memblock_size») (s .«max_device_memblock_size») count
+
 unfoldable pub memblockSize : AllocationSizes → Bool → ℕ → Reply ℕ
-memblockSize s host count =
-    ifProducible s
-    (cond host (grown (s .«min_host_memblock_size») (s .«max_host_memblock_size») count) (grown (s .«min_device_memblock_size») (s .«max_device_memblock_size») count))
+memblockSize s host count = ifProducible s (nextSize s host count)
 
 -- the paper's number and values for each case of a setter's answer
 abbrev pub replySizes : Changed → Reply AllocationSizes
