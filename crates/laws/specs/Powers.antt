@@ -17,8 +17,8 @@ Pow2 x = (k : ℕ) × (x ≡ 2 ^ k)
 abbrev pub Pow64 : ℕ → Type 0
 Pow64 x = (k : ℕ) × (k < 64) × (x ≡ 2 ^ k)
 
-pub pow64-pos : {x : ℕ} → Pow64 x → 0 < x
-pow64-pos p = rw (p .2) (pow-pos (p .0))
+pub pow2-pos : {x : ℕ} → Pow2 x → 0 < x
+pow2-pos p = rw (p .1) (pow-pos (p .0))
 
 even-or-odd : (x : ℕ) → (x % 2 ≡ 0) ⊎ (x % 2 ≡ 1)
 even-or-odd x = go (x % 2) (mod-lt x (lit< tt))

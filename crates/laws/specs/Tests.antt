@@ -3,14 +3,21 @@ use Prim.Native.Nat.{ℕ, _≤_, _<_}
 use native.Mathlib.Omega.{arith}
 use mathlib.Core.Bool.{Bool, true, false, not, _&&_, false≢true}
 use mathlib.Core.Logic.{_↔_}
-use mathlib.Core.Path.{_≡_, refl, sym}
-use borrow.Author.Tests.{eqb-false, ne-eqb, ltb-true, ltb-false}
+use mathlib.Core.Path.{_≡_, refl, sym, _∙_}
+use borrow.Author.Tests.{eqb-false, ne-eqb, ltb-true, ltb-false, not-true, not-false}
 use lib.Dec.{eqb, ltb}
 
 -- both tests of a passed `&&` passed
 pub both : (a b : Bool) → (a && b) ≡ true → (a ≡ true) × (b ≡ true)
 both true b e = (refl, e)
 both false b e = absurd (false≢true e)
+
+-- what follows `if !f() { return .. }`, where f answers the test b: inside it the test failed, and after it the test passed
+pub failed : {t b : Bool} → t ≡ b → not t ≡ true → b ≡ false
+failed {t} e n = sym e ∙ not-true t n
+
+pub passed : {t b : Bool} → t ≡ b → not t ≡ false → b ≡ true
+passed {t} e n = sym e ∙ not-false t n
 
 -- not both tests pass exactly when the second rules the first out
 pub not-both : (a b : Bool) → not (a && b) ≡ true ↔ (b ≡ true → a ≡ false)

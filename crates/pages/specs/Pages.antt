@@ -6,7 +6,7 @@ use mathlib.Core.Path.{_≡_}
 use borrow.Author.Tests.{eqb-true, eq-eqb}
 use lib.Count.{ones}
 use lib.Dec.{eqb}
-use Rattle.laws.specs.Powers.{Pow64, pow2-of-ones, ones-of-pow2, pow64}
+use Rattle.laws.specs.Powers.{Pow64, pow2-pos, pow2-of-ones, ones-of-pow2, pow64}
 use Rattle.laws.specs.Rounding.{alignDown}
 
 -- exactly one bit is set
@@ -20,6 +20,11 @@ isOnSamePage offset-a size-a offset-b page-size = eqb (alignDown (offset-a + siz
 -- both kinds are live, and they differ
 unfoldable pub hasGranularityConflict : ℕ → ℕ → Bool
 hasGranularityConflict type0 type1 = not (eqb type0 0) && (not (eqb type1 0) && not (eqb type0 type1))
+
+-- A number with exactly one bit set is not 0.
+pub power-pos : {x : ℕ} → isPowerOfTwo x ≡ true → 0 < x
+unfolding isPowerOfTwo
+power-pos {x} e = pow2-pos (pow2-of-ones x (eqb-true _ _ e))
 
 -- A 64-bit word has exactly one bit set exactly when it is 2 ^ k for some k below 64.
 pub power-of-two : (x : ℕ) → x < 2 ^ 64 → isPowerOfTwo x ≡ true ↔ Pow64 x

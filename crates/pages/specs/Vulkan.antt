@@ -6,7 +6,7 @@ use mathlib.Core.Logic.{_↔_, _⊎_, inl, inr, ⊎-elim}
 use mathlib.Core.Path.{_≡_, refl}
 use borrow.Author.Tests.{eqb-false, not-true}
 use lib.Dec.{eqb}
-use Rattle.laws.specs.Powers.{Pow64, pow64-pos}
+use Rattle.laws.specs.Powers.{Pow64, pow2-pos}
 use Rattle.laws.specs.Rounding.{alignDown, down-mono}
 use Rattle.laws.specs.Tests.{both, not-both, differ-below}
 use Rattle.pages.specs.Mask.{mask, mask-down}
@@ -68,7 +68,7 @@ conflict-linear A B la lb = (λ e. told e, ⊎-elim (λ w. rw (w .0, w .1)) (λ 
 
 module _ (granularity : ℕ) (A B : Resource) (p : Pow64 granularity) (h : Below A B) where
   ordered : alignDown (end A) granularity ≤ alignDown (B .offset) granularity
-  ordered = let u = h .under in down-mono (pow64-pos p) (omega arith)
+  ordered = let u = h .under in down-mono (pow2-pos (p .0, p .2)) (omega arith)
 
   end-page : endPage granularity A ≡ alignDown (end A) granularity
   end-page = let u = h .under in let r = h .reach in mask-down (end A) (omega arith) p

@@ -12,9 +12,6 @@ fn align_up_agrees(val: u64, alignment: u64, answer: u64) -> bool {
     if !pages::is_power_of_two(alignment) {
         return false;
     }
-    if alignment == 0 {
-        return false;
-    }
     if u64::MAX - (alignment - 1) < val {
         return false;
     }

@@ -1,12 +1,11 @@
 -- `pages::align_down` meets its contract: the mask is the remainder form. Assumes nothing.
-use Rattle.laws.specs.Powers.{pow64-pos}
 use Rattle.pages.specs.Mask.{mask, mask-down}
-use Rattle.pages.specs.Pages.{power-of-two}
+use Rattle.pages.specs.Pages.{power-of-two, power-pos}
 use Rattle.pages.proofs.align_down.Statement.{statement}
 use Rattle.pages.proofs.align_down.Tie as tie
 
 sub-result : tie.Need-sub-result
-sub-result c = pow64-pos (power-of-two _ (c .fits .alignment .fits) .0 (c .pre))
+sub-result c = power-pos (c .pre)
 
 returns : tie.Need-returns
 unfolding mask

@@ -1,13 +1,12 @@
 -- `pages::align_up` meets its contract. Assumes nothing.
 use borrow.Author.Needs.{needs}
-use Rattle.laws.specs.Powers.{pow64-pos}
 use Rattle.laws.specs.Rounding.{alignUp}
-use Rattle.pages.specs.Pages.{power-of-two}
+use Rattle.pages.specs.Pages.{power-pos}
 use Rattle.pages.proofs.align_up.Statement.{statement}
 use Rattle.pages.proofs.align_up.Tie as tie
 
 sub-align-down : tie.Need-sub-align-down
-sub-align-down c = pow64-pos (power-of-two _ (c .fits .alignment .fits) .0 (c .pre .0))
+sub-align-down c = power-pos (c .pre .0)
 
 add-align-down : tie.Need-add-align-down
 add-align-down c = search needs

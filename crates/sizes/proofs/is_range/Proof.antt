@@ -1,7 +1,6 @@
 -- `sizes::is_range` meets its contract. Assumes nothing.
 use borrow.Author.Needs.{needs}
-use mathlib.Core.Path.{sym, _∙_}
-use borrow.Author.Tests.{not-true, not-false}
+use Rattle.laws.specs.Tests.{failed, passed}
 use Rattle.sizes.specs.Sizes.{isRange}
 use Rattle.sizes.proofs.is_range.Statement.{statement}
 use Rattle.sizes.proofs.is_range.Tie as tie
@@ -11,18 +10,18 @@ is-block-size-requires c κs = search needs
 
 returns : tie.Need-returns
 unfolding isRange
-returns c = rw (sym (c .before .is-block-size .ensures) ∙ not-true _ (c .if1 .taken))
+returns c = rw (failed (c .before .is-block-size .ensures) (c .if1 .taken))
 
 is-block-size-requires-2 : tie.Need-is-block-size-requires-2
 is-block-size-requires-2 c κs = search needs
 
 returns-2 : tie.Need-returns-2
 unfolding isRange
-returns-2 c = rw (sym (c .before .before .before .is-block-size .ensures) ∙ not-false _ (c .before .before .if1 .left), sym (c .before .is-block-size2 .ensures) ∙ not-true _ (c .if2 .taken))
+returns-2 c = rw (passed (c .before .before .before .is-block-size .ensures) (c .before .before .if1 .left), failed (c .before .is-block-size2 .ensures) (c .if2 .taken))
 
 returns-3 : tie.Need-returns-3
 unfolding isRange
-returns-3 c = rw (sym (c .before .before .before .is-block-size .ensures) ∙ not-false _ (c .before .before .if1 .left), sym (c .before .is-block-size2 .ensures) ∙ not-false _ (c .if2 .left))
+returns-3 c = rw (passed (c .before .before .before .is-block-size .ensures) (c .before .before .if1 .left), passed (c .before .is-block-size2 .ensures) (c .if2 .left))
 
 pub is-range-spec : {M : Type 1} → statement M
 is-range-spec =

@@ -1,7 +1,6 @@
 -- `replay::answers::align_down_agrees` meets its contract. Assumes nothing.
 use borrow.Author.Needs.{needs}
-use mathlib.Core.Path.{sym, _∙_}
-use borrow.Author.Tests.{not-false}
+use Rattle.laws.specs.Tests.{passed}
 use Rattle.replay.proofs.answers.align_down_agrees.Statement.{statement}
 use Rattle.replay.proofs.answers.align_down_agrees.Tie as tie
 
@@ -12,7 +11,7 @@ returns : tie.Need-returns
 returns c = search needs
 
 align-down-requires : tie.Need-align-down-requires
-align-down-requires c κs = sym (c .before .is-power-of-two .ensures) ∙ not-false _ (c .if1 .left)
+align-down-requires c κs = passed (c .before .is-power-of-two .ensures) (c .if1 .left)
 
 returns-2 : tie.Need-returns-2
 returns-2 c = search needs

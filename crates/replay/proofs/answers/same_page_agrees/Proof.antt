@@ -1,7 +1,6 @@
 -- `replay::answers::same_page_agrees` meets its contract. Assumes nothing.
 use borrow.Author.Needs.{needs}
-use mathlib.Core.Path.{sym, _∙_}
-use borrow.Author.Tests.{not-false}
+use Rattle.laws.specs.Tests.{passed}
 use native.Mathlib.Omega.{arith}
 use Rattle.replay.proofs.answers.same_page_agrees.Statement.{statement}
 use Rattle.replay.proofs.answers.same_page_agrees.Tie as tie
@@ -22,7 +21,7 @@ returns-3 : tie.Need-returns-3
 returns-3 c = search needs
 
 is-on-same-page-requires : tie.Need-is-on-same-page-requires
-is-on-same-page-requires c κs = (sym (c .before .before .before .is-power-of-two .ensures) ∙ not-false _ (c .before .before .if1 .left), omega arith)
+is-on-same-page-requires c κs = (passed (c .before .before .before .is-power-of-two .ensures) (c .before .before .if1 .left), omega arith)
 
 cast-result : tie.Need-cast-result
 cast-result c = search needs

@@ -1,7 +1,6 @@
 -- `sizes::AllocationSizes::get_memblock_size` meets its contract. Assumes nothing.
 use borrow.Author.Needs.{needs}
-use mathlib.Core.Path.{sym, _∙_}
-use borrow.Author.Tests.{not-true, not-false}
+use Rattle.laws.specs.Tests.{failed, passed}
 use Rattle.sizes.specs.Sizes.{ifProducible, memblockSize}
 use Rattle.sizes.specs.Reach.{range-tested, told}
 use Rattle.sizes.proofs.AllocationSizes.get_memblock_size.Statement.{statement}
@@ -12,21 +11,21 @@ is-producible-requires c κs = search needs
 
 returns : tie.Need-returns
 unfolding ifProducible memblockSize
-returns c = rw (sym (c .before .is-producible .ensures) ∙ not-true _ (c .if1 .taken))
+returns c = rw (failed (c .before .is-producible .ensures) (c .if1 .taken))
 
 grow-requires : tie.Need-grow-requires
-grow-requires c κs = range-tested (told _ (sym (c .before .before .is-producible .ensures) ∙ not-false _ (c .before .if1 .left)) .of-host)
+grow-requires c κs = range-tested (told _ (passed (c .before .before .is-producible .ensures) (c .before .if1 .left)) .of-host)
 
 returns-2 : tie.Need-returns-2
 unfolding ifProducible memblockSize
-returns-2 c = rw (sym (c .before .before .before .is-producible .ensures) ∙ not-false _ (c .before .before .if1 .left), c .before .if2 .taken, c .grow .ensures)
+returns-2 c = rw (passed (c .before .before .before .is-producible .ensures) (c .before .before .if1 .left), c .before .if2 .taken, c .grow .ensures)
 
 grow-requires-2 : tie.Need-grow-requires-2
-grow-requires-2 c κs = range-tested (told _ (sym (c .before .before .is-producible .ensures) ∙ not-false _ (c .before .if1 .left)) .of-device)
+grow-requires-2 c κs = range-tested (told _ (passed (c .before .before .is-producible .ensures) (c .before .if1 .left)) .of-device)
 
 returns-3 : tie.Need-returns-3
 unfolding ifProducible memblockSize
-returns-3 c = rw (sym (c .before .before .before .is-producible .ensures) ∙ not-false _ (c .before .before .if1 .left), c .before .if2 .left, c .grow2 .ensures)
+returns-3 c = rw (passed (c .before .before .before .is-producible .ensures) (c .before .before .if1 .left), c .before .if2 .left, c .grow2 .ensures)
 
 pub get-memblock-size-spec : {M : Type 1} → statement M
 get-memblock-size-spec =

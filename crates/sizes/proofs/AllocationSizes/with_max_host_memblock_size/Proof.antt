@@ -1,7 +1,6 @@
 -- `sizes::AllocationSizes::with_max_host_memblock_size` meets its contract. Assumes nothing.
 use borrow.Author.Needs.{needs}
-use mathlib.Core.Path.{sym, _∙_}
-use borrow.Author.Tests.{not-true, not-false}
+use Rattle.laws.specs.Tests.{failed, passed}
 use Rattle.sizes.specs.Sizes.{ifProducible, setMaxHost, withMaxHost}
 use Rattle.sizes.proofs.AllocationSizes.with_max_host_memblock_size.Statement.{statement}
 use Rattle.sizes.proofs.AllocationSizes.with_max_host_memblock_size.Tie as tie
@@ -11,7 +10,7 @@ is-producible-requires c κs = search needs
 
 returns : tie.Need-returns
 unfolding ifProducible setMaxHost
-returns c = rw (sym (c .before .is-producible .ensures) ∙ not-true _ (c .if1 .taken))
+returns c = rw (failed (c .before .is-producible .ensures) (c .if1 .taken))
 
 adjust-memblock-size-requires : tie.Need-adjust-memblock-size-requires
 adjust-memblock-size-requires c κs = search needs
@@ -21,7 +20,7 @@ max-requires c κs = search needs
 
 returns-2 : tie.Need-returns-2
 unfolding ifProducible setMaxHost withMaxHost
-returns-2 c = rw (sym (c .before .before .before .is-producible .ensures) ∙ not-false _ (c .before .before .if1 .left), c .max .ensures, c .before .adjust-memblock-size .ensures)
+returns-2 c = rw (passed (c .before .before .before .is-producible .ensures) (c .before .before .if1 .left), c .max .ensures, c .before .adjust-memblock-size .ensures)
 
 pub with-max-host-memblock-size-spec : {M : Type 1} → statement M
 with-max-host-memblock-size-spec =
