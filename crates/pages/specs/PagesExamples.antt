@@ -3,22 +3,22 @@ use Prim.Native.Nat.{ℕ}
 use native.Mathlib.Omega.{arith}
 use mathlib.Core.Bool.{true, false, true≢false}
 use mathlib.Core.Path.{_≡_, refl}
-use lib.Count.{ones, onesIn}
+use lib.Count.{ones}
 use Rattle.laws.specs.Powers.{Pow64}
 use Rattle.laws.specs.Rounding.{alignDown, alignUp}
 use Rattle.pages.specs.Pages.{isPowerOfTwo, isOnSamePage, hasGranularityConflict}
 use Rattle.pages.specs.Vulkan.{Resource, Below, PagesApart, mayStand, page-test}
 
 one : isPowerOfTwo 1 ≡ true
-unfolding isPowerOfTwo ones onesIn
+unfolding isPowerOfTwo ones
 one = refl
 
 none : isPowerOfTwo 0 ≡ false
-unfolding isPowerOfTwo ones onesIn
+unfolding isPowerOfTwo ones
 none = refl
 
 two-bits : isPowerOfTwo 6 ≡ false
-unfolding isPowerOfTwo ones onesIn
+unfolding isPowerOfTwo ones
 two-bits = refl
 
 down : alignDown 1023 512 ≡ 512
@@ -46,7 +46,7 @@ page = (10, omega arith, refl)
 
 -- On the next page the image may stand, and Vulkan's property holds.
 next-page : mayStand 1024 buffer (imageAt 1024) ≡ true
-unfolding mayStand isOnSamePage hasGranularityConflict alignDown buffer imageAt
+unfolding mayStand isOnSamePage alignDown buffer imageAt
 next-page = refl
 
 next-page-apart : PagesApart 1024 buffer (imageAt 1024)
