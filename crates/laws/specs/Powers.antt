@@ -1,13 +1,13 @@
 -- Powers, and how a count of bits tells those of two. Assumes nothing.
-use Prim.Native.Nat.{ℕ, zero, suc, _+_, _*_, _/_, _%_, _^_, _<_}
-use native.Mathlib.Nat.{mod-lt, lt-of-not-le, not-le-of-lt, div-lt-iff-lt-mul, pow-suc}
+use Prim.Native.Nat.{ℕ, zero, suc, _+_, _-_, _*_, _/_, _%_, _^_, _≤_, _<_}
+use native.Mathlib.Nat.{mod-lt, lt-of-not-le, not-le-of-lt, le-of-suc-le-suc, add-sub-of-le, mul-mod-right, div-lt-iff-lt-mul, pow-suc}
 use native.Mathlib.Omega.{arith}
-use mathlib.Core.Path.{_≡_, refl, ap, _∙_}
+use mathlib.Core.Path.{_≡_, refl, sym, ap, _∙_}
 use mathlib.Core.Logic.{_⊎_, inl, inr}
 use lib.Arith.{bin-ind}
 use lib.Count.{ones, ones-step, ones-cat, ones-ones}
 use lib.Dec.{lit<}
-use lib.Pow.{pow-pos, pow-mono}
+use lib.Pow.{pow-pos, pow-mono, pow-lt, pow-add}
 
 -- x is a power of two
 abbrev pub Pow2 : ℕ → Type 0
@@ -19,6 +19,14 @@ Pow64 x = (k : ℕ) × (k < 64) × (x ≡ 2 ^ k)
 
 pub pow2-pos : {x : ℕ} → Pow2 x → 0 < x
 pow2-pos p = rw (p .1) (pow-pos (p .0))
+
+-- The smaller of two powers of two divides the larger.
+pub pow2-divides : {a g : ℕ} → Pow2 a → Pow2 g → a ≤ g → g % a ≡ 0
+pow2-divides {a} {g} p q h =
+    let l : p .0 ≤ q .0 = le-of-suc-le-suc (lt-of-not-le (λ n. not-le-of-lt (pow-lt n) (rw (← (p .1), ← (q .1)) h))) in
+    let e : g ≡ a * 2 ^ (q .0 - p .0) =
+    q .1 ∙ ap (λ (x : ℕ). 2 ^ x) (sym (add-sub-of-le l)) ∙ pow-add 2 (p .0) (q .0 - p .0) ∙ rw (← (p .1)) in
+    rw e (mul-mod-right a _)
 
 even-or-odd : (x : ℕ) → (x % 2 ≡ 0) ⊎ (x % 2 ≡ 1)
 even-or-odd x = go (x % 2) (mod-lt x (lit< tt))

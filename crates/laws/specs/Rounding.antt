@@ -1,8 +1,8 @@
 -- Rounding to a multiple, down and up. Assumes nothing.
 use Prim.Native.Nat.{ℕ, suc, _+_, _-_, _*_, _/_, _%_, _≤_, _<_}
-use native.Mathlib.Nat.{div-add-mod', mul-mod-left, lt-div-mul-add, div-lt-iff-lt-mul, le-div-iff-mul-le, div-mul-le-self, mul-le-mul-right, le-trans}
+use native.Mathlib.Nat.{div-add-mod', mul-mod-left, mul-assoc, lt-div-mul-add, div-lt-iff-lt-mul, le-div-iff-mul-le, div-mul-le-self, mul-le-mul-right, le-trans}
 use native.Mathlib.Omega.{arith}
-use mathlib.Core.Path.{_≡_}
+use mathlib.Core.Path.{_≡_, ap, _∙_}
 
 -- x rounded down to a multiple of a
 unfoldable pub alignDown : ℕ → ℕ → ℕ
@@ -57,3 +57,10 @@ up-least x {a} h = rw down-quotient (record {
 -- Rounding down keeps the order.
 pub down-mono : {x y a : ℕ} → 0 < a → x ≤ y → alignDown x a ≤ alignDown y a
 down-mono {x} {y} {a} h l = let d = down-greatest x h in down-greatest y h .greatest (alignDown x a) (d .multiple) (le-trans (d .below) l)
+
+-- A multiple of g is a multiple of what divides g.
+pub multiple-trans : (m g a : ℕ) → m % g ≡ 0 → g % a ≡ 0 → m % a ≡ 0
+multiple-trans m g a p q =
+    let e : m / g * (g / a) * a ≡ m =
+    mul-assoc (m / g) (g / a) a ∙ ap (λ (x : ℕ). m / g * x) (exact g a q) ∙ exact m g p in
+    rw e at (mul-mod-left (m / g * (g / a)) a)

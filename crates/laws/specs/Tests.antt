@@ -1,7 +1,7 @@
 -- Booleans and tests on numbers. Assumes nothing.
 use Prim.Native.Nat.{ℕ, _≤_, _<_}
 use native.Mathlib.Omega.{arith}
-use mathlib.Core.Bool.{Bool, true, false, not, _&&_, false≢true}
+use mathlib.Core.Bool.{Bool, true, false, not, _&&_, cond, false≢true}
 use mathlib.Core.Logic.{_↔_}
 use mathlib.Core.Path.{_≡_, refl, sym, _∙_}
 use borrow.Author.Tests.{eqb-false, ne-eqb, ltb-true, ltb-false, not-true, not-false}
@@ -11,6 +11,16 @@ use lib.Dec.{eqb, ltb}
 pub both : (a b : Bool) → (a && b) ≡ true → (a ≡ true) × (b ≡ true)
 both true b e = (refl, e)
 both false b e = absurd (false≢true e)
+
+-- and two that pass pass together
+pub both-pass : {a b : Bool} → a ≡ true → b ≡ true → (a && b) ≡ true
+both-pass p q = rw (p, q)
+
+-- what holds of each of two values, given the test's answer, holds of the one that the test picks
+pub cond-cases : {A : Type 0} (P : A → Type 0) (t : Bool) {x y : A} → (t ≡ true → P x) → (t ≡ false → P y)
+    → P (cond t x y)
+cond-cases P true f g = f refl
+cond-cases P false f g = g refl
 
 -- what follows `if !f() { return .. }`, where f answers the test b: inside it the test failed, and after it the test passed
 pub failed : {t b : Bool} → t ≡ b → not t ≡ true → b ≡ false

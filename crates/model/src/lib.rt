@@ -1,0 +1,1 @@
+// A free-list block and what its calls mean: definitions and theorems, no code.

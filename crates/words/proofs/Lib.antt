@@ -1,0 +1,4 @@
+pub mod Ways
+pub mod Chains
+pub mod Turns
+pub mod Verdict

@@ -1,0 +1,15 @@
+-- `words::layout::first_slot` meets its contract. Assumes nothing.
+use native.Mathlib.Omega.{arith}
+use Rattle.words.specs.Layout.{table-shape}
+use borrow.Author.Needs.{needs}
+use Rattle.words.proofs.layout.first_slot.Statement.{statement}
+use Rattle.words.proofs.layout.first_slot.Tie as tie
+
+shared-slice-read-result : tie.Need-shared-slice-read-result
+shared-slice-read-result c = omega (arith, table-shape _ (c .before .pre))
+
+returns : tie.Need-returns
+returns c = search needs
+
+pub first-slot-spec : {M : Type 1} → statement M
+first-slot-spec = tie.close (tie.spec shared-slice-read-result returns)

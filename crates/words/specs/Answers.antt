@@ -1,0 +1,25 @@
+-- What the parts of the check answer. Assumes nothing.
+use Prim.Native.Nat.{ℕ, _^_}
+use mathlib.Core.Bool.{Bool, cond}
+use mathlib.Core.List.{List, [], _∷_}
+use lib.Dec.{eqb, leb}
+use Rattle.laws.specs.Every.{every}
+use Rattle.words.specs.declared.soundness.Live.{Live}
+use Rattle.words.specs.declared.soundness.Live.the-variants.{Bytes, Broken}
+use Rattle.words.specs.Layout.{blockSize, allocatedWord, nextId, sizeAt, kindAt}
+use Rattle.words.specs.Checks.{kindOk}
+
+-- block size 1 to 2^40, next id at least 2
+unfoldable pub headOk : List ℕ → Bool
+headOk ws = every (leb 1 (blockSize ws) ∷ leb (blockSize ws) (2 ^ 40) ∷ leb 2 (nextId ws) ∷ [])
+
+unfoldable pub isSlot : ℕ → ℕ → Bool
+isSlot k slots = every (leb 1 k ∷ leb k slots ∷ [])
+
+-- the bytes that a chunk adds to those allocated, where its kind and label keep the rules
+unfoldable pub liveOf : List ℕ → ℕ → ℕ → Live
+liveOf ws before k = cond (kindOk ws before k) (Bytes (cond (eqb (kindAt ws k) 0) 0 (sizeAt ws k))) Broken
+
+-- the chunks met by a walk that ended at slot k and at an address, with so many live bytes; 0 where a rule is broken
+unfoldable pub walkEnd : List ℕ → ℕ → ℕ → ℕ → ℕ → ℕ
+walkEnd ws k first sum n = cond (every (eqb k 0 ∷ eqb first (blockSize ws) ∷ eqb sum (allocatedWord ws) ∷ [])) n 0

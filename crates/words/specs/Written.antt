@@ -1,0 +1,156 @@
+-- What is written is read back, and what is read is written so. Assumes nothing.
+use Prim.Native.Nat.{ℕ, _+_, _*_, _≤_}
+use native.Mathlib.Omega.{arith}
+use mathlib.Core.Bool.{Bool, true, false}
+use mathlib.Core.List.{List}
+use mathlib.Core.Logic.{_≢_, _↔_, ⊎-elim}
+use mathlib.Core.Path.{_≡_, refl, sym, ap, _∙_}
+use borrow.Author.Tests.{eq-eqb, le-leb}
+use lib.ListN.{length, length-map}
+use Rattle.laws.specs.Counting.{Within, distinct-pairs, distinct-fits, has-element}
+use Rattle.laws.specs.Every.{pass, none, more, two, cases, clash}
+use Rattle.laws.specs.Lists.{all-map, all-at}
+use Rattle.laws.specs.Mapped.{all-mapped, pairs-mapped}
+use Rattle.laws.specs.Members.{distinct, same-eq, same-refl}
+use Rattle.model.specs.Block.{Block, allocated}
+use Rattle.model.specs.Soundness.{Sound}
+use Rattle.words.specs.Layout.{wordCount, slotCount, isTable, table-shape, allocatedWord, firstSlot, row}
+use Rattle.words.specs.Words.{slotOf, rowAt, encode, chunksOf, blockOf, slotsOf, rules, notATable, table, sound, readAs, decode}
+use Rattle.words.specs.Rows.{encode-length, encode-slots, encode-head, encode-row}
+use Rattle.words.specs.Linked.{Linked, rowAt-linked, linked-read}
+use Rattle.words.specs.Rules.{rules-sound}
+
+-- ---- the slots of a sound block
+
+-- no two chunks of a sound block are in one slot
+slots-distinct : (b : Block) → Sound b → distinct (slotsOf (b .chunks)) ≡ true
+slots-distinct b h = distinct-pairs (slotsOf (b .chunks)) .1 (pairs-mapped _ _ (b .chunks) .1 (h .apart))
+
+-- each is in a slot of the table
+slots-within : (b : Block) → Sound b → Within (b .slots) (slotsOf (b .chunks))
+slots-within b h = all-mapped _ _ (b .chunks) .1 (h .places)
+
+-- A sound block has at most as many chunks as slots.
+pub chunks-fit : (b : Block) → Sound b → length (b .chunks) ≤ b .slots
+chunks-fit b h =
+    let f = distinct-fits (slotsOf (b .chunks)) (b .slots) (slots-distinct b h) (slots-within b h) in
+    simp length-map at f
+
+-- ---- a block that is written
+
+-- words with the slots of a sound block are linked as its chunks
+linked : (ws : List ℕ) (b : Block) → Sound b
+    → ((k : ℕ) → 1 ≤ k → k ≤ b .slots → row ws k ≡ rowAt 0 0 (b .chunks) k)
+    → Linked ws 0 (slotOf (b .chunks)) 0 (b .chunks)
+linked ws b h r =
+    rowAt-linked ws 0 0 (b .chunks) (slots-distinct b h)
+    (λ k t.
+    let p = all-at _ (slotsOf (b .chunks)) (slots-within b h) k (has-element k _ .0 t) in
+    r k (p .0) (p .1))
+
+chunks-back : (b : Block) → Sound b → chunksOf (encode b) ≡ b .chunks
+unfolding chunksOf
+chunks-back b h =
+    let l : length (b .chunks) ≤ slotCount (encode b) = rw (encode-slots b) (chunks-fit b h) in
+    linked-read (encode b) (slotCount (encode b)) 0 (firstSlot (encode b)) 0 (b .chunks)
+    (all-map (λ c p. p .0) (b .chunks) (h .places)) l (rw (encode-head b .3) (linked (encode b) b h (encode-row b)))
+
+-- the block that is read from what a sound block is written as is that block
+block-back : (b : Block) → Sound b → blockOf (encode b) ≡ b
+unfolding blockOf encode
+block-back b h = λ i. record { size = b .size; next = b .next; slots = encode-slots b i; chunks = chunks-back b h i }
+
+-- Words are sound if a sound block is read from them and is written as them.
+pub sound-words : (ws : List ℕ) (b : Block) → blockOf ws ≡ b → Sound b → encode b ≡ ws → sound ws ≡ true
+unfolding sound
+sound-words ws b e h w =
+    two _ _ (ap rules e ∙ rules-sound b .1 h) (rw (e, w) (same-refl ws))
+
+table-length : (ws : List ℕ) (s : ℕ) → 1 ≤ s → s ≤ 512 → length ws ≡ wordCount s → isTable ws ≡ true
+unfolding isTable
+table-length ws s p q e =
+    more _ _ (le-leb 1 (slotCount ws) (omega arith))
+    (more _ _ (le-leb (slotCount ws) 512 (omega arith))
+    (more _ _ (eq-eqb (length ws) (wordCount (slotCount ws)) (omega arith))
+    none))
+
+-- what is known of sound words
+pub record Known (ws : List ℕ) : Type 0 where
+  -- the block that is read is written as these words
+  pub words : encode (blockOf ws) ≡ ws
+  -- it is sound
+  pub block : Sound (blockOf ws)
+  -- the second word is its sum of the live sizes
+  pub allocated : allocatedWord ws ≡ allocated (chunksOf ws)
+  -- each slot is as the chunks say, and they are linked
+  pub rows : (k : ℕ) → 1 ≤ k → k ≤ slotCount ws → row ws k ≡ rowAt 0 0 (chunksOf ws) k
+  pub links : Linked ws 0 (firstSlot ws) 0 (chunksOf ws)
+
+-- Sound words are known so.
+pub known : (ws : List ℕ) → sound ws ≡ true → Known ws
+unfolding sound blockOf
+known ws e =
+    let w : encode (blockOf ws) ≡ ws = same-eq _ _ (pass _ 1 e) in
+    let h : Sound (blockOf ws) = rules-sound (blockOf ws) .0 (pass _ 0 e) in
+    let r : (k : ℕ) → 1 ≤ k → k ≤ slotCount ws → row ws k ≡ rowAt 0 0 (chunksOf ws) k =
+    (λ k p q. ap (λ (l : List ℕ). row l k) (sym w) ∙ encode-row (blockOf ws) k p q) in
+    record {
+      words = w;
+      block = h;
+      allocated = ap allocatedWord (sym w) ∙ encode-head (blockOf ws) .1;
+      rows = r;
+      links = rw (ap firstSlot (sym w) ∙ encode-head (blockOf ws) .3) (linked ws (blockOf ws) h r);
+    }
+
+-- ---- what words are read as
+
+-- Sound words of a table are read as the block that they hold.
+pub decode-block : (ws : List ℕ) → isTable ws ≡ true → sound ws ≡ true → decode ws ≡ table (blockOf ws)
+unfolding decode
+decode-block ws t s = rw (t, s)
+
+-- A sound block is read back from what it is written as.
+pub decode-encode : (b : Block) → Sound b → decode (encode b) ≡ table b
+decode-encode b h =
+    let e = block-back b h in
+    decode-block (encode b) (table-length (encode b) (b .slots) (h .slots .0) (h .slots .1) (encode-length b))
+    (sound-words (encode b) b e h refl)
+    ∙ ap table e
+
+read-table : (t s : Bool) (b b′ : Block) → readAs t s b ≡ table b′ → (t ≡ true) × (s ≡ true) × (b ≡ b′)
+read-table false s b b′ e = (cc, cc, cc)
+read-table true false b b′ e = (cc, cc, cc)
+read-table true true b b′ e = (refl, refl, cc)
+
+-- Words that are read as a block are a table's, sound, and it is the block that they hold.
+pub decode-table : (ws : List ℕ) (b : Block) → decode ws ≡ table b
+    → (isTable ws ≡ true) × (sound ws ≡ true) × (blockOf ws ≡ b)
+unfolding decode
+decode-table ws b e = read-table (isTable ws) (sound ws) (blockOf ws) b e
+
+-- The block that words are read as is written as those words.
+pub encode-decode : (ws : List ℕ) (b : Block) → decode ws ≡ table b → encode b ≡ ws
+encode-decode ws b e =
+    let d = decode-table ws b e in
+    ap encode (sym (d .2)) ∙ known ws (d .1) .words
+
+-- That block is sound.
+pub decode-sound : (ws : List ℕ) (b : Block) → decode ws ≡ table b → Sound b
+decode-sound ws b e =
+    let d = decode-table ws b e in
+    rw (d .2) at (known ws (d .1) .block)
+
+read-not : (t s : Bool) (b : Block) → readAs t s b ≡ notATable → t ≡ false
+read-not false s b e = refl
+read-not true false b e = cc
+read-not true true b e = cc
+
+-- Words are not a table exactly where their number is not 4 + 7s, s from 1 to 512.
+pub not-a-table : (ws : List ℕ) → decode ws ≡ notATable ↔ ((s : ℕ) → 1 ≤ s → s ≤ 512 → length ws ≢ 4 + 7 * s)
+unfolding decode
+not-a-table ws = (
+  λ e s p q n. clash (table-length ws s p q n) (read-not (isTable ws) (sound ws) (blockOf ws) e),
+  λ f.
+      ⊎-elim (λ t. let h = table-shape ws t in absurd (f (slotCount ws) (h .0) (h .1) (h .2))) (λ t. rw t)
+      (cases (isTable ws)),
+)

@@ -1,0 +1,190 @@
+// Whether a table is sound: one walk along "next", every other slot seven zeros, ids distinct.
+use crate::ids;
+use crate::layout;
+ghost use mathlib.Core.Bool.{true};
+ghost use mathlib.Core.Path.{_≡_};
+ghost use Prim.Native.Nat.{_≤_};
+ghost use lib.ListN.{length};
+ghost use Rattle.words.specs.Layout.{isTable, slotCount, Slot, nextId};
+ghost use Rattle.words.specs.Words.{sound};
+ghost use Rattle.words.specs.Checks.{linksOk, idOk, chunksWalked, othersZero, emptyBelow};
+ghost use Rattle.words.specs.Buckets.{AllZero};
+ghost use Rattle.words.specs.Answers.{headOk, isSlot, liveOf, walkEnd};
+
+// What a chunk adds to the bytes allocated, or that its kind or label breaks a rule.
+enum Live {
+    Bytes(u64),
+    Broken,
+}
+
+fn is_slot(k: u64, s: u64) -> bool
+    ensures { λ r. ⌜ r ≡ isSlot k s ⌝ }
+{
+    if k < 1 {
+        return false;
+    }
+    k <= s
+}
+
+fn links_ok(w: &[u64], prev: u64, first: u64, k: u64) -> bool
+    requires { ⌜ Slot (now w) k ⌝ }
+    ensures { λ r. ⌜ r ≡ linksOk (now (w .entry)) prev first k ⌝ }
+{
+    if layout::first_byte(w, k) != first {
+        return false;
+    }
+    layout::previous(w, k) == prev
+}
+
+fn id_ok(id: u64, top: u64) -> bool
+    ensures { λ r. ⌜ r ≡ idOk id top ⌝ }
+{
+    if id < 1 {
+        return false;
+    }
+    id <= top
+}
+
+fn live_bytes(w: &[u64], before: u64, k: u64) -> Live
+    requires { ⌜ Slot (now w) k ⌝ }
+    ensures { λ r. ⌜ r ≡ liveOf (now (w .entry)) before k ⌝ }
+{
+    let kind = layout::kind(w, k);
+    if kind != 0 {
+        if 2 < kind {
+            return Live::Broken;
+        }
+        return Live::Bytes(layout::size(w, k));
+    }
+    if before == 0 {
+        return Live::Broken;
+    }
+    if layout::label(w, k) != 0 {
+        return Live::Broken;
+    }
+    Live::Bytes(0)
+}
+
+// Walks along "next" from address 0, and answers how many chunks it met, 0 where a rule is broken.
+fn walk(w: &[u64], s: u64, buckets: &mut [u16; 1024]) -> u64
+    requires { ⌜ (isTable (now w) ≡ true) × (s ≡ slotCount (now w)) × (2 ≤ nextId (now w)) × (length (now buckets) ≡ 1024) × AllZero (now buckets) ⌝ }
+    ensures { λ r. ⌜ r ≡ chunksWalked (now (w .entry)) ⌝ }
+{
+    let top = layout::next_id(w) - 1;
+    let mut prev: u64 = 0;
+    let mut k = layout::first_slot(w);
+    let mut first: u64 = 0;
+    let mut before: u64 = 1;
+    let mut sum: u64 = 0;
+    let mut n: u64 = 0;
+    while is_slot(k, s) {
+        if !links_ok(w, prev, first, k) {
+            return 0;
+        }
+        if !id_ok(layout::id(w, k), top) {
+            return 0;
+        }
+        if !ids::enter(w, buckets, k) {
+            return 0;
+        }
+        // wraps only past any block's end, and an end that does not rise is a size of 0 or has wrapped
+        let end = std::num::wrapping_add_u64(first, layout::size(w, k));
+        if end <= first {
+            return 0;
+        }
+        let Live::Bytes(live) = live_bytes(w, before, k) else {
+            return 0;
+        };
+        sum += live;
+        before = layout::kind(w, k);
+        first = end;
+        prev = k;
+        k = layout::next(w, k);
+        n += 1;
+    }
+    walk_end(w, k, first, sum, n)
+}
+
+// The walk ended at slot 0, at the block size, and with the live bytes that the head has.
+fn walk_end(w: &[u64], k: u64, first: u64, sum: u64, n: u64) -> u64
+    requires { ⌜ isTable (now w) ≡ true ⌝ }
+    ensures { λ r. ⌜ r ≡ walkEnd (now (w .entry)) k first sum n ⌝ }
+{
+    if k != 0 {
+        return 0;
+    }
+    if first != layout::block_size(w) {
+        return 0;
+    }
+    if sum != layout::allocated(w) {
+        return 0;
+    }
+    n
+}
+
+// Whether the words after the id of slot k are all 0.
+fn others_zero(w: &[u64], k: u64) -> bool
+    requires { ⌜ Slot (now w) k ⌝ }
+    ensures { λ r. ⌜ r ≡ othersZero (now (w .entry)) k ⌝ }
+{
+    let chunk = layout::size(w, k)
+        | layout::first_byte(w, k)
+        | layout::kind(w, k)
+        | layout::label(w, k);
+    let links = layout::next(w, k) | layout::previous(w, k);
+    chunk | links == 0
+}
+
+// Whether so many slots are empty, looked for from the last one down.
+fn rest_empty(w: &[u64], s: u64, empty: u64) -> bool
+    requires { ⌜ s ≡ slotCount (now w) ⌝ }
+    ensures { λ r. ⌜ r ≡ emptyBelow (now (w .entry)) s empty ⌝ }
+{
+    let mut k = s;
+    let mut left = empty;
+    while left != 0 {
+        if k == 0 {
+            return false;
+        }
+        if layout::id(w, k) != 0 {
+            k -= 1;
+            continue;
+        }
+        if !others_zero(w, k) {
+            return false;
+        }
+        k -= 1;
+        left -= 1;
+    }
+    true
+}
+
+fn head_ok(w: &[u64]) -> bool
+    requires { ⌜ isTable (now w) ≡ true ⌝ }
+    ensures { λ r. ⌜ r ≡ headOk (now (w .entry)) ⌝ }
+{
+    let size = layout::block_size(w);
+    if size < 1 {
+        return false;
+    }
+    if 1099511627776 < size {
+        return false;
+    }
+    2 <= layout::next_id(w)
+}
+
+pub fn is_sound(w: &[u64]) -> bool
+    requires { ⌜ isTable (now w) ≡ true ⌝ }
+    ensures { λ r. ⌜ r ≡ sound (now (w .entry)) ⌝ }
+{
+    if !head_ok(w) {
+        return false;
+    }
+    let s = layout::slot_count(w);
+    let mut buckets = [0u16; 1024];
+    let n = walk(w, s, &mut buckets);
+    if n == 0 {
+        return false;
+    }
+    rest_empty(w, s, s - n)
+}
