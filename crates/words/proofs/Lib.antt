@@ -2,3 +2,4 @@ pub mod Ways
 pub mod Chains
 pub mod Turns
 pub mod Verdict
+pub mod FreshWords

@@ -15,7 +15,7 @@ use Rattle.laws.specs.Members.{distinct, same-eq, same-refl}
 use Rattle.model.specs.Block.{Block, allocated}
 use Rattle.model.specs.Soundness.{Sound}
 use Rattle.words.specs.Layout.{wordCount, slotCount, isTable, table-shape, allocatedWord, firstSlot, row}
-use Rattle.words.specs.Words.{slotOf, rowAt, encode, chunksOf, blockOf, slotsOf, rules, notATable, table, sound, readAs, decode}
+use Rattle.words.specs.Words.{slotOf, rowAt, encode, chunksOf, blockOf, slotsOf, rules, notATable, unsound, table, sound, readAs, decode}
 use Rattle.words.specs.Rows.{encode-length, encode-slots, encode-head, encode-row}
 use Rattle.words.specs.Linked.{Linked, rowAt-linked, linked-read}
 use Rattle.words.specs.Rules.{rules-sound}
@@ -103,6 +103,15 @@ known ws e =
     }
 
 -- ---- what words are read as
+
+-- Words of another count are no table, and words that are not sound hold no block.
+pub decode-none : (ws : List ℕ) → isTable ws ≡ false → decode ws ≡ notATable
+unfolding decode
+decode-none ws t = rw t
+
+pub decode-unsound : (ws : List ℕ) → isTable ws ≡ true → sound ws ≡ false → decode ws ≡ unsound
+unfolding decode
+decode-unsound ws t s = rw (t, s)
 
 -- Sound words of a table are read as the block that they hold.
 pub decode-block : (ws : List ℕ) → isTable ws ≡ true → sound ws ≡ true → decode ws ≡ table (blockOf ws)

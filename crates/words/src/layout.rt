@@ -1,8 +1,9 @@
 // Where the words of a table stand: a head of four words, then seven for each slot.
 ghost use mathlib.Core.Bool.{true};
 ghost use mathlib.Core.Path.{_≡_};
-ghost use lib.ListN.{length};
-ghost use Rattle.words.specs.Layout.{isTable, slotCount, Slot, blockSize, allocatedWord, nextId, firstSlot, idAt, sizeAt, firstByteAt, kindAt, labelAt, nextAt, previousAt};
+ghost use Prim.Native.Nat.{_≤_};
+ghost use lib.ListN.{length, set};
+ghost use Rattle.words.specs.Layout.{isTable, slotCount, Slot, at, blockSize, allocatedWord, nextId, firstSlot, idAt, sizeAt, firstByteAt, kindAt, labelAt, nextAt, previousAt};
 
 // Whether the word count is 4 + 7s, s from 1 to 512.
 pub fn is_table(w: &[u64]) -> bool
@@ -100,4 +101,39 @@ pub fn previous(w: &[u64], k: u64) -> u64
     ensures { λ r. ⌜ r ≡ previousAt (now (w .entry)) k ⌝ }
 {
     w[4 + 7 * (k as usize - 1) + 6]
+}
+
+pub fn set_block_size(w: &mut [u64], v: u64)
+    requires { ⌜ 4 ≤ length (now w) ⌝ }
+    ensures { λ _. ⌜ now (w .exit) ≡ set (now (w .entry)) 0 v ⌝ }
+{
+    w[0] = v;
+}
+
+pub fn set_next_id(w: &mut [u64], v: u64)
+    requires { ⌜ 4 ≤ length (now w) ⌝ }
+    ensures { λ _. ⌜ now (w .exit) ≡ set (now (w .entry)) 2 v ⌝ }
+{
+    w[2] = v;
+}
+
+pub fn set_first_slot(w: &mut [u64], v: u64)
+    requires { ⌜ 4 ≤ length (now w) ⌝ }
+    ensures { λ _. ⌜ now (w .exit) ≡ set (now (w .entry)) 3 v ⌝ }
+{
+    w[3] = v;
+}
+
+pub fn set_id(w: &mut [u64], k: u64, v: u64)
+    requires { ⌜ Slot (now w) k ⌝ }
+    ensures { λ _. ⌜ now (w .exit) ≡ set (now (w .entry)) (at k 0) v ⌝ }
+{
+    w[4 + 7 * (k as usize - 1)] = v;
+}
+
+pub fn set_size(w: &mut [u64], k: u64, v: u64)
+    requires { ⌜ Slot (now w) k ⌝ }
+    ensures { λ _. ⌜ now (w .exit) ≡ set (now (w .entry)) (at k 1) v ⌝ }
+{
+    w[4 + 7 * (k as usize - 1) + 1] = v;
 }

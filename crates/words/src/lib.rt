@@ -1,4 +1,5 @@
-// The chunk table as lent words: where they stand, and whether they are sound.
+// The chunk table as lent words: where they stand, how a fresh one is written, and whether they are sound.
+pub mod fresh;
 mod ids;
 pub mod layout;
 pub mod soundness;

@@ -1,0 +1,3 @@
+-- The laws that the proofs of `block` share. Assumes nothing.
+pub mod Made
+pub mod Asked

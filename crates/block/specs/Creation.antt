@@ -1,0 +1,28 @@
+-- Creation: 1, then 13, and no look at old content. Assumes nothing.
+use Prim.Native.Nat.{ℕ, _^_}
+use mathlib.Core.Bool.{Bool, cond}
+use mathlib.Core.List.{List, [], _∷_}
+use lib.Dec.{leb}
+use Rattle.laws.specs.Every.{every}
+use Rattle.laws.specs.Reply.{Reply, accepted, refused}
+use Rattle.model.specs.Block.{fresh}
+use Rattle.words.specs.Layout.{isTable, slotCount}
+use Rattle.words.specs.Words.{encode}
+use Rattle.block.specs.declared.creation.Created.{Created}
+use Rattle.block.specs.declared.creation.Created.the-variants.{Done, Refused}
+
+-- the code's answer, as the paper numbers it
+abbrev pub replyCreated : Created → Reply (Unit {0})
+replyCreated Done = accepted tt
+replyCreated (Refused n) = refused n
+
+-- a free-list block has 1 to 2^40 bytes
+unfoldable pub isBlockSize : ℕ → Bool
+isBlockSize size = every (leb 1 size ∷ leb size (2 ^ 40) ∷ [])
+
+-- the call: the answer and every word after it; a refusal keeps the words
+unfoldable pub newOn : List ℕ → ℕ → Reply (Unit {0}) × List ℕ
+newOn ws size =
+    cond (isTable ws)
+    (cond (isBlockSize size) (accepted tt, encode (fresh size (slotCount ws))) (refused 13, ws))
+    (refused 1, ws)

@@ -1,0 +1,3 @@
+// The calls of a free-list block, on the lent words of its table.
+pub mod creation;
+pub mod questions;
