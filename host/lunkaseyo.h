@@ -3,12 +3,13 @@
  *
  * Answers. A function that returns a number returns 0 when it accepts the call and a refusal's number when it does not.
  * Where several faults meet, the one that is named first below is answered. A refused call sets its out-values to zeros
- * and leaves `buf` as it was. What an out-value held before the call never matters.
+ * and leaves `buf` and `words` as they were. What an out-value held before the call never matters.
  *
  * Pointers. No pointer may be NULL. Each points to memory of the caller, aligned as its type asks, that is there for the
- * whole call: one value behind `written` and `size`, four behind `sizes`, `buf_len` bytes behind `buf`. Where `buf_len` is 0
- * nothing is read or written behind `buf`, and any pointer that is not NULL will do. Two pointers of one call must not
- * reach the same memory. Nothing is kept after the call, and there is no state: any thread may call at any time.
+ * whole call: one value behind `written`, `size`, `allocated` and `is_empty`, four behind `sizes`, `buf_len` bytes behind
+ * `buf`, `words_len` words behind `words`. Where `buf_len` or `words_len` is 0 nothing is read or written behind `buf` or
+ * `words`, and any pointer that is not NULL will do. Two pointers of one call must not reach the same memory. Nothing is
+ * kept after the call, and there is no state: any thread may call at any time.
  */
 #ifndef LUNKASEYO_H
 #define LUNKASEYO_H
@@ -54,6 +55,31 @@ uint64_t lunkaseyo_sizes_with_max_host_memblock_size(uint64_t min_device, uint64
  */
 uint64_t lunkaseyo_sizes_get_memblock_size(uint64_t min_device, uint64_t max_device, uint64_t min_host,
                                            uint64_t max_host, uint64_t is_host, uint64_t count, uint64_t *size);
+
+/*
+ * A free-list block is a table of its chunks in `words_len` words of the caller, 4 + 7s for s slots, s from 1 to 512; any
+ * other count is refusal 1. First the head: block size, bytes allocated, next id, number (from 1) of the slot that starts
+ * at 0. Then each slot: id, size, first byte, kind (0 free, 1 linear, 2 non-linear), label, next slot number, previous slot
+ * number; 0 means none. An empty slot is seven zeros.
+ *
+ * The words are all that there is of a block; they may be copied, stored and lent again. So a call on a block looks at the
+ * whole table, and one that is not sound is refusal 2. Sound means: block size 1 to 2^40; next id at least 2; ids distinct,
+ * at least 1 and below next id; sizes at least 1; kinds 0 to 2; free chunks labelled 0; the walk along "next" visits every
+ * used slot once and "previous" agrees; each chunk begins where the one before ends, the first at 0, the last ending at the
+ * block size; no two neighbours free; bytes allocated the sum of live sizes, padding included.
+ */
+
+/*
+ * A new block of `size` bytes, all free: every word is written, whatever it held. Refusals: 1, 13 the size is 0 or above
+ * 2^40.
+ */
+uint64_t lunkaseyo_block_new(uint64_t *words, size_t words_len, uint64_t size);
+
+/* The bytes that are allocated, padding included. Refusals: 1, 2. */
+uint64_t lunkaseyo_block_allocated(const uint64_t *words, size_t words_len, uint64_t *allocated);
+
+/* 1 where nothing is allocated, 0 where something is. Refusals: 1, 2. */
+uint64_t lunkaseyo_block_is_empty(const uint64_t *words, size_t words_len, uint64_t *is_empty);
 
 #ifdef __cplusplus
 }

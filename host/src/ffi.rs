@@ -48,12 +48,23 @@ mod archive {
             count: u64,
             size: &mut u64,
         ) -> u64;
+        pub fn lunkaseyo_block_new(words: *mut u64, words_len: usize, size: u64) -> u64;
+        pub fn lunkaseyo_block_allocated(
+            words: *const u64,
+            words_len: usize,
+            allocated: &mut u64,
+        ) -> u64;
+        pub fn lunkaseyo_block_is_empty(
+            words: *const u64,
+            words_len: usize,
+            is_empty: &mut u64,
+        ) -> u64;
     }
 }
 
 // SAFETY, of every call below: the functions are proved to touch nothing but the memory lent to
 // them, and to return. What they ask of the caller, valid pointers to memory that does not overlap,
-// is what `&mut` says.
+// is what `&mut` says, and `&` of memory that they only read.
 
 /// `lunkaseyo_fmt_bytes`
 pub fn fmt_bytes(amount: u64, buf: &mut [u8], written: &mut u64) -> u64 {
@@ -98,4 +109,19 @@ pub fn sizes_get_memblock_size(from: Words, is_host: u64, count: u64, size: &mut
             min_device, max_device, min_host, max_host, is_host, count, size,
         )
     }
+}
+
+/// `lunkaseyo_block_new`
+pub fn block_new(words: &mut [u64], size: u64) -> u64 {
+    unsafe { archive::lunkaseyo_block_new(words.as_mut_ptr(), words.len(), size) }
+}
+
+/// `lunkaseyo_block_allocated`
+pub fn block_allocated(words: &[u64], allocated: &mut u64) -> u64 {
+    unsafe { archive::lunkaseyo_block_allocated(words.as_ptr(), words.len(), allocated) }
+}
+
+/// `lunkaseyo_block_is_empty`
+pub fn block_is_empty(words: &[u64], is_empty: &mut u64) -> u64 {
+    unsafe { archive::lunkaseyo_block_is_empty(words.as_ptr(), words.len(), is_empty) }
 }

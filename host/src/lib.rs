@@ -1,6 +1,6 @@
-//! Memory blocks of a GPU: the leaf parts of gpu-allocator, proved in Rattle and called here from
-//! safe Rust.
+//! Memory blocks of a GPU: parts of gpu-allocator, proved in Rattle and called here from safe Rust.
 //!
+//! - [`Block`]: a free-list block, whose table lies in words of the caller.
 //! - [`AllocationSizes`]: how large the next memory block is to be.
 //! - [`fmt_bytes`] and [`byte_text`]: an amount of memory as text.
 //!
@@ -19,12 +19,14 @@
 //! ```
 #![deny(missing_docs, unsafe_code)]
 
+mod block;
 #[allow(unsafe_code)]
 pub mod ffi;
 mod refusal;
 mod sizes;
 mod text;
 
+pub use block::Block;
 pub use refusal::Refusal;
 pub use sizes::AllocationSizes;
 pub use text::{byte_text, fmt_bytes, ByteText};

@@ -22,6 +22,9 @@ impl Refusal {
 
     fn reason(self) -> &'static str {
         match self.number() {
+            1 => "the number of words is not 4 + 7s for any s from 1 to 512 slots",
+            2 => "the chunk table is not sound",
+            13 => "the block size is 0, or above 2^40 for a free-list block",
             14 => "the block-size rules cannot produce these sizes",
             15 => "the amount is 2^50 bytes or more",
             16 => "the buffer is too short for the text",

@@ -1,7 +1,7 @@
-//! The worked examples of block sizes and byte text, through the safe wrapper. They need no Rust to
-//! compare with.
+//! The worked examples of blocks, block sizes and byte text, through the safe wrapper. They need no
+//! Rust to compare with.
 
-use lunkaseyo::{byte_text, fmt_bytes, AllocationSizes, Refusal};
+use lunkaseyo::{byte_text, fmt_bytes, AllocationSizes, Block, Refusal};
 
 const MB: u64 = 1024 * 1024;
 
@@ -97,11 +97,119 @@ fn texts_that_are_refused() {
     assert_eq!(number(byte_text(1 << 50)), 15);
 }
 
+/// The words of a table of 8 slots, of which these are the first.
+fn table(words: &[u64]) -> [u64; Block::words(8)] {
+    let mut table = [0; Block::words(8)];
+    table[..words.len()].copy_from_slice(words);
+    table
+}
+
+/// A block of 4096 bytes after linear 100 with label 7 and non-linear 256 with label 8, where a page
+/// has 1024 bytes: the second is put at 1024, behind 924 bytes of padding.
+#[rustfmt::skip]
+fn two_placed() -> [u64; Block::words(8)] {
+    table(&[
+        4096, 1280, 4, 2,
+        1, 2816, 1280, 0, 0, 0, 3,
+        2, 100, 0, 1, 7, 3, 0,
+        3, 1180, 100, 2, 8, 1, 2,
+    ])
+}
+
+#[test]
+fn a_fresh_table_has_one_free_chunk() {
+    let mut words = [u64::MAX; Block::words(8)];
+    let block = Block::new(&mut words, 4096).expect("a table of 8 slots");
+    assert_eq!(block.allocated(), Ok(0));
+    assert_eq!(block.is_empty(), Ok(true));
+    let fresh = table(&[4096, 0, 2, 1, 1, 4096]);
+    assert_eq!(block.as_words(), fresh);
+    assert_eq!(words, fresh);
+}
+
+#[test]
+fn a_block_has_1_to_2_40_bytes() {
+    let mut words = [7; Block::words(1)];
+    for size in [0, (1 << 40) + 1, u64::MAX] {
+        assert_eq!(number(Block::new(&mut words, size)), 13);
+        assert_eq!(words, [7; 11]);
+    }
+    for size in [1, 1 << 40] {
+        assert!(Block::new(&mut words, size).is_ok());
+        assert_eq!(words, [size, 0, 2, 1, 1, size, 0, 0, 0, 0, 0]);
+    }
+}
+
+#[test]
+fn a_table_has_1_to_512_slots() {
+    for count in [0, 1, 4, 10, 12, 3587, 3589, Block::words(513)] {
+        let mut words = vec![7; count];
+        // looked at before the size
+        assert_eq!(number(Block::new(&mut words, 0)), 1);
+        assert_eq!(number(Block::new(&mut words, 4096)), 1);
+        assert_eq!(number(Block::over(&mut words).allocated()), 1);
+        assert_eq!(number(Block::over(&mut words).is_empty()), 1);
+        assert!(words.iter().all(|&word| word == 7));
+    }
+    for slots in [1, 2, 511, 512] {
+        let mut words = vec![7; Block::words(slots)];
+        let block = Block::new(&mut words, 4096).expect("1 to 512 slots");
+        assert_eq!(block.is_empty(), Ok(true));
+    }
+}
+
+#[test]
+fn padding_is_allocated() {
+    let mut words = two_placed();
+    let block = Block::over(&mut words);
+    assert_eq!(block.allocated(), Ok(1280));
+    assert_eq!(block.is_empty(), Ok(false));
+}
+
+#[test]
+fn a_wrong_word_is_refusal_2() {
+    // the next id, and the labels of the two live chunks: 5000 is as good there as any
+    let free_to_choose = [2, 4 + 7 + 4, 4 + 14 + 4];
+    for place in 0..Block::words(8) {
+        let mut words = two_placed();
+        words[place] = 5000;
+        let answer = Block::over(&mut words).allocated();
+        if free_to_choose.contains(&place) {
+            assert_eq!(answer, Ok(1280), "word {place}");
+        } else {
+            assert_eq!(number(answer), 2, "word {place}");
+        }
+    }
+}
+
+#[test]
+fn words_that_are_no_table_are_refusal_2() {
+    for word in [0, 1, 7, u64::MAX] {
+        let mut words = [word; Block::words(8)];
+        assert_eq!(number(Block::over(&mut words).allocated()), 2);
+        assert_eq!(number(Block::over(&mut words).is_empty()), 2);
+        assert_eq!(words, [word; Block::words(8)]);
+    }
+}
+
 #[test]
 fn refusals_say_why() {
-    let refusal = fmt_bytes(0, &mut []).unwrap_err();
-    assert_eq!(
-        refusal.to_string(),
-        "refusal 16: the buffer is too short for the text"
-    );
+    let text = fmt_bytes(0, &mut []).unwrap_err();
+    let count = Block::new(&mut [], 4096).unwrap_err();
+    let size = Block::new(&mut [0; 11], 0).unwrap_err();
+    let unsound = Block::over(&mut [0; 11]).is_empty().unwrap_err();
+    for (refusal, why) in [
+        (text, "refusal 16: the buffer is too short for the text"),
+        (
+            count,
+            "refusal 1: the number of words is not 4 + 7s for any s from 1 to 512 slots",
+        ),
+        (
+            size,
+            "refusal 13: the block size is 0, or above 2^40 for a free-list block",
+        ),
+        (unsound, "refusal 2: the chunk table is not sound"),
+    ] {
+        assert_eq!(refusal.to_string(), why);
+    }
 }

@@ -93,10 +93,56 @@ static void refused_sizes(void)
     EXPECT(lunkaseyo_sizes_get_memblock_size(8 * MB, 8 * MB, 0, 4 * MB, 0, 0, &size) == 14 && size == 0);
 }
 
+static void accepted_blocks(void)
+{
+    /* one slot; then linear 100 in a block of 4096 with two */
+    const uint64_t fresh[11] = {4096, 0, 2, 1, 1, 4096, 0, 0, 0, 0, 0};
+    const uint64_t placed[18] = {4096, 100, 3, 2, 1, 3996, 100, 0, 0, 0, 2, 2, 100, 0, 1, 7, 1, 0};
+    uint64_t words[11], allocated, is_empty;
+
+    spoil(words, 11);
+    EXPECT(lunkaseyo_block_new(words, 11, 4096) == 0);
+    EXPECT(memcmp(words, fresh, sizeof fresh) == 0);
+
+    spoil(&allocated, 1);
+    EXPECT(lunkaseyo_block_allocated(fresh, 11, &allocated) == 0 && allocated == 0);
+    spoil(&is_empty, 1);
+    EXPECT(lunkaseyo_block_is_empty(fresh, 11, &is_empty) == 0 && is_empty == 1);
+
+    spoil(&allocated, 1);
+    EXPECT(lunkaseyo_block_allocated(placed, 18, &allocated) == 0 && allocated == 100);
+    spoil(&is_empty, 1);
+    EXPECT(lunkaseyo_block_is_empty(placed, 18, &is_empty) == 0 && is_empty == 0);
+}
+
+static void refused_blocks(void)
+{
+    uint64_t words[11], spoilt[11], allocated, is_empty;
+
+    spoil(words, 11);
+    spoil(spoilt, 11);
+    EXPECT(lunkaseyo_block_new(words, 0, 0) == 1);
+    EXPECT(lunkaseyo_block_new(words, 10, 0) == 1);
+    EXPECT(lunkaseyo_block_new(words, 11, 0) == 13);
+    EXPECT(lunkaseyo_block_new(words, 11, ((uint64_t)1 << 40) + 1) == 13);
+    EXPECT(memcmp(words, spoilt, sizeof spoilt) == 0);
+
+    spoil(&allocated, 1);
+    EXPECT(lunkaseyo_block_allocated(words, 4, &allocated) == 1 && allocated == 0);
+    spoil(&allocated, 1);
+    EXPECT(lunkaseyo_block_allocated(words, 11, &allocated) == 2 && allocated == 0);
+    spoil(&is_empty, 1);
+    EXPECT(lunkaseyo_block_is_empty(words, 4, &is_empty) == 1 && is_empty == 0);
+    spoil(&is_empty, 1);
+    EXPECT(lunkaseyo_block_is_empty(words, 11, &is_empty) == 2 && is_empty == 0);
+}
+
 int main(void)
 {
     text();
     accepted_sizes();
     refused_sizes();
+    accepted_blocks();
+    refused_blocks();
     return faults;
 }

@@ -1,11 +1,13 @@
 -- What crosses the boundary, by computing. Assumes nothing.
-use Prim.Native.Nat.{_*_, _^_}
+use Prim.Native.Nat.{ℕ, _*_, _^_}
 use mathlib.Core.Bool.{true, false}
 use mathlib.Core.List.{[], _∷_}
 use mathlib.Core.Path.{_≡_, refl}
 use Rattle.laws.specs.Reply.{accepted, refused}
 use Rattle.sizes.specs.Sizes.{defaultSizes}
-use Rattle.lunkaseyo.specs.SizesCalls.{sizesOf, words, sizesOut, sizeOut, isHost}
+use Rattle.lunkaseyo.specs.BlockCalls.{wordsOut}
+use Rattle.lunkaseyo.specs.Outs.{valueOut, flagOut}
+use Rattle.lunkaseyo.specs.SizesCalls.{sizesOf, words, sizesOut, isHost}
 use Rattle.lunkaseyo.specs.TextCalls.{textOut}
 
 -- ---- sizes
@@ -22,10 +24,10 @@ minimum-first = refl
 sizes-refused : sizesOut (refused 14) ≡ (14, 0 ∷ 0 ∷ 0 ∷ 0 ∷ [])
 sizes-refused = refl
 
-size-given : sizeOut (accepted 7) ≡ (0, 7)
+size-given : valueOut (accepted 7) ≡ (0, 7)
 size-given = refl
 
-size-refused : sizeOut (refused 14) ≡ (14, 0)
+size-refused : valueOut (refused 14) ≡ (14, 0)
 size-refused = refl
 
 device-asked : isHost 0 ≡ false
@@ -33,6 +35,22 @@ device-asked = refl
 
 host-asked : isHost 2 ≡ true
 host-asked = refl
+
+-- ---- a block
+words-made : wordsOut {A = ℕ} (accepted 5, 7 ∷ []) ≡ (0, 7 ∷ [])
+words-made = refl
+
+words-kept : wordsOut {A = ℕ} (refused 13, 7 ∷ []) ≡ (13, 7 ∷ [])
+words-kept = refl
+
+flag-yes : flagOut (accepted true) ≡ (0, 1)
+flag-yes = refl
+
+flag-no : flagOut (accepted false) ≡ (0, 0)
+flag-no = refl
+
+flag-refused : flagOut (refused 2) ≡ (2, 0)
+flag-refused = refl
 
 -- ---- text
 text-written : textOut (accepted 7, 65 ∷ []) ≡ (0, (7, 65 ∷ []))

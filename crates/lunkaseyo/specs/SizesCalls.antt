@@ -24,11 +24,6 @@ abbrev pub sizesOut : Reply AllocationSizes → ℕ × List ℕ
 sizesOut (accepted s) = (0, words s)
 sizesOut (refused n) = (n, 0 ∷ 0 ∷ 0 ∷ 0 ∷ [])
 
--- the number given back and the size written: 0 on a refusal
-abbrev pub sizeOut : Reply ℕ → ℕ × ℕ
-sizeOut (accepted size) = (0, size)
-sizeOut (refused n) = (n, 0)
-
 -- 0 asks for device blocks, any other number for host blocks
 abbrev pub isHost : ℕ → Bool
 isHost flag = not (eqb flag 0)

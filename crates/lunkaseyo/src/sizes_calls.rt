@@ -4,7 +4,8 @@ use sizes::BlockSize;
 use sizes::Changed;
 ghost use mathlib.Core.Path.{_≡_};
 ghost use Rattle.sizes.specs.Sizes.{newSizes, defaultSizes, setMaxDevice, setMaxHost, memblockSize, replySize, replySizes};
-ghost use Rattle.lunkaseyo.specs.SizesCalls.{sizesOf, words, sizesOut, sizeOut, isHost};
+ghost use Rattle.lunkaseyo.specs.Outs.{valueOut};
+ghost use Rattle.lunkaseyo.specs.SizesCalls.{sizesOf, words, sizesOut, isHost};
 
 fn sizes_of(min_device: u64, max_device: u64, min_host: u64, max_host: u64) -> AllocationSizes
     ensures { λ r. ⌜ r ≡ sizesOf «min_device» «max_device» «min_host» «max_host» ⌝ }
@@ -42,7 +43,7 @@ fn give_sizes(answer: Changed, sizes: &mut [u64; 4]) -> u64
 
 // The same of a block's size.
 fn give_size(answer: BlockSize, size: &mut u64) -> u64
-    ensures { λ r. ⌜ (r, now (size .exit)) ≡ sizeOut (replySize answer) ⌝ }
+    ensures { λ r. ⌜ (r, now (size .exit)) ≡ valueOut (replySize answer) ⌝ }
 {
     let BlockSize::Bytes(bytes) = answer else {
         *size = 0;
@@ -110,7 +111,7 @@ pub extern "C" fn lunkaseyo_sizes_get_memblock_size(
     count: u64,
     size: &mut u64,
 ) -> u64
-    ensures { λ r. ⌜ (r, now (size .exit)) ≡ sizeOut (memblockSize (sizesOf «min_device» «max_device» «min_host» «max_host») (isHost «is_host») count) ⌝ }
+    ensures { λ r. ⌜ (r, now (size .exit)) ≡ valueOut (memblockSize (sizesOf «min_device» «max_device» «min_host» «max_host») (isHost «is_host») count) ⌝ }
 {
     let given = sizes_of(min_device, max_device, min_host, max_host);
     give_size(given.get_memblock_size(is_host != 0, count), size)

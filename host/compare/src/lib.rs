@@ -1,7 +1,14 @@
-//! What the comparisons with the Rust share: the Rust itself, and inputs to run both sides on.
+//! What the comparisons with the Rust share: the Rust itself, inputs to run both sides on, and a
+//! reading of chunk tables by the rules.
 #![deny(missing_docs, unsafe_code)]
 
 pub mod boundary;
+pub mod damage;
+pub mod generator;
 pub mod pages;
 pub mod random;
+pub mod reading;
 pub mod rust;
+pub mod table;
+pub mod tally;
+pub mod tracked;

@@ -6,7 +6,7 @@ use std::num::NonZeroU64;
 use std::sync::Arc;
 
 pub use gpu_allocator::allocator::free_list_allocator::{
-    align_down, align_up, has_granularity_conflict, is_on_same_page,
+    align_down, align_up, has_granularity_conflict, is_on_same_page, MemoryChunk,
 };
 pub use gpu_allocator::allocator::{
     fmt_bytes, AllocationType, DedicatedBlockAllocator, FreeListAllocator, SubAllocator,
@@ -20,6 +20,15 @@ pub fn kind(number: u64) -> AllocationType {
         1 => AllocationType::Linear,
         2 => AllocationType::NonLinear,
         _ => panic!("{number} is no kind"),
+    }
+}
+
+/// The number that stands for a kind.
+pub fn kind_number(kind: AllocationType) -> u64 {
+    match kind {
+        AllocationType::Free => 0,
+        AllocationType::Linear => 1,
+        AllocationType::NonLinear => 2,
     }
 }
 
@@ -54,6 +63,11 @@ pub fn allocate(block: &mut dyn SubAllocator, request: Request) -> Result<(u64, 
 /// Gives an id back to its block.
 pub fn free(block: &mut dyn SubAllocator, id: u64) -> Result<()> {
     block.free(NonZeroU64::new(id))
+}
+
+/// Gives the live chunk with this id another label.
+pub fn rename(block: &mut dyn SubAllocator, id: u64, label: u64) -> Result<()> {
+    block.rename_allocation(NonZeroU64::new(id), &label.to_string())
 }
 
 /// The four words of block sizes, in the order in which they cross the boundary.

@@ -1,7 +1,8 @@
 -- `lunkaseyo::sizes_calls::lunkaseyo_sizes_get_memblock_size` meets its contract. Assumes nothing.
 use borrow.Author.Needs.{needs}
 use mathlib.Core.Path.{ap, _∙_}
-use Rattle.lunkaseyo.specs.SizesCalls.{sizeOut, isHost}
+use Rattle.lunkaseyo.specs.Outs.{valueOut}
+use Rattle.lunkaseyo.specs.SizesCalls.{isHost}
 use Rattle.sizes.specs.Sizes.{memblockSize}
 use Rattle.sizes.specs.declared.AllocationSizes.{AllocationSizes}
 use Rattle.lunkaseyo.proofs.sizes_calls.lunkaseyo_sizes_get_memblock_size.Statement.{statement}
@@ -17,7 +18,7 @@ give-size-requires : tie.Need-give-size-requires
 give-size-requires c κs = search needs
 
 returns : tie.Need-returns
-returns c = let a = c .before .before .before .before .args in c .give-size .ensures ∙ ap sizeOut (c .before .before .get-memblock-size .ensures ∙ ap (λ (s : AllocationSizes). memblockSize s (isHost (a .is-host)) (a .count)) (c .before .before .before .sizes-of .ensures))
+returns c = let a = c .before .before .before .before .args in c .give-size .ensures ∙ ap valueOut (c .before .before .get-memblock-size .ensures ∙ ap (λ (s : AllocationSizes). memblockSize s (isHost (a .is-host)) (a .count)) (c .before .before .before .sizes-of .ensures))
 
 pub lunkaseyo-sizes-get-memblock-size-spec : {M : Type 1} → statement M
 lunkaseyo-sizes-get-memblock-size-spec =

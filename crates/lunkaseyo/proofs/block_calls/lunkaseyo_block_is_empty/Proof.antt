@@ -1,0 +1,46 @@
+-- `lunkaseyo::block_calls::lunkaseyo_block_is_empty` meets its contract. Assumes nothing.
+use Prim.Native.Nat.{ℕ}
+use mathlib.Core.Bool.{Bool, true, false, cond}
+use mathlib.Core.Path.{_≡_, refl, ap}
+use mir.Val.{boolByte}
+use borrow.Author.Needs.{needs}
+use Rattle.lunkaseyo.proofs.block_calls.lunkaseyo_block_is_empty.Statement.{statement}
+use Rattle.lunkaseyo.proofs.block_calls.lunkaseyo_block_is_empty.Tie as tie
+
+-- a truth value as a number
+as-number : (b : Bool) → boolByte b ≡ cond b 1 0
+as-number true = refl
+as-number false = refl
+
+is-empty-requires : tie.Need-is-empty-requires
+is-empty-requires c κs = search needs
+
+enum-known-answer : tie.Need-enum-known-answer
+enum-known-answer c = search needs
+
+enum-told : tie.Need-enum-told
+enum-told c = search needs
+
+number-requires : tie.Need-number-requires
+number-requires c κs = search needs
+
+returns : tie.Need-returns
+returns c = rw (c .number .ensures, ← (c .before .before .before .is-empty .ensures), c .before .enum-told .given .1)
+
+cast-is-empty : tie.Need-cast-is-empty
+cast-is-empty c = search needs
+
+returns-2 : tie.Need-returns-2
+returns-2 c = rw (← (c .before .before .before .is-empty .ensures), c .before .answer .given .1) (ap (λ (n : ℕ). (0, n)) (as-number (c .before .answer .given .0 .0)))
+
+pub lunkaseyo-block-is-empty-spec : {M : Type 1} → statement M
+lunkaseyo-block-is-empty-spec =
+    tie.close
+    (tie.spec
+    is-empty-requires
+    enum-known-answer
+    enum-told
+    number-requires
+    returns
+    cast-is-empty
+    returns-2)
