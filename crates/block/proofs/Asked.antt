@@ -2,7 +2,7 @@
 use Prim.Native.Nat.{ℕ}
 use mathlib.Core.Bool.{Bool, true, false}
 use mathlib.Core.List.{List}
-use mathlib.Core.Path.{_≡_, refl, sym, ap, _∙_}
+use mathlib.Core.Path.{_≡_, refl, ap, _∙_}
 use lib.Dec.{eqb}
 use Rattle.laws.specs.Reply.{Reply, accepted, refused}
 use Rattle.model.specs.Block.{Block, allocated}

@@ -1,12 +1,12 @@
 -- What each way through creation answers, and the words that it leaves. Assumes nothing.
 use Prim.Native.Nat.{ℕ, _^_, _≤_, _<_}
-use mathlib.Core.Bool.{Bool, true, false}
+use mathlib.Core.Bool.{true, false}
 use mathlib.Core.List.{List}
 use mathlib.Core.Path.{_≡_, sym}
 use borrow.Author.Tests.{lt-leb, le-leb}
 use lib.Dec.{leb}
 use Rattle.laws.specs.Every.{fail, second}
-use Rattle.laws.specs.Reply.{Reply, accepted, refused}
+use Rattle.laws.specs.Reply.{accepted, refused}
 use Rattle.model.specs.Block.{fresh}
 use Rattle.words.specs.Layout.{isTable, slotCount}
 use Rattle.words.specs.Words.{encode}

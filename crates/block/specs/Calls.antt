@@ -1,5 +1,4 @@
 -- A call on the words of a table: what is read from them is looked at first. Assumes nothing.
-use Prim.Native.Nat.{ℕ}
 use Rattle.laws.specs.Reply.{Reply, refused}
 use Rattle.model.specs.Block.{Block}
 use Rattle.words.specs.Words.{Read, notATable, unsound, table}

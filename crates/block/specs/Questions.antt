@@ -4,7 +4,7 @@ use mathlib.Core.Bool.{Bool}
 use mathlib.Core.List.{List}
 use lib.Dec.{eqb}
 use Rattle.laws.specs.Reply.{Reply, accepted, refused}
-use Rattle.model.specs.Block.{Block, allocated}
+use Rattle.model.specs.Block.{allocated}
 use Rattle.words.specs.Words.{decode}
 use Rattle.block.specs.Calls.{onTable}
 use Rattle.block.specs.declared.questions.Total.{Total}

@@ -1,28 +1,33 @@
--- A block, its calls and its rules; then what is proved of them.
+-- A free-list block: what it is, what its calls mean, and what is proved of them.
+
+-- the definitions
 pub mod Block
 pub mod Placing
 pub mod GivingBack
 pub mod Runs
 pub mod Soundness
+-- demand 3, and every refusal's number
 pub mod Requests
-pub mod Fit
-pub mod Choose
-pub mod Put
-pub mod Sums
-pub mod PageRule
 pub mod Room
-pub mod Slots
 pub mod Handed
 pub mod Refusals
 pub mod NoneLive
-pub mod Effects
-pub mod Merging
-pub mod Totals
+pub mod Apart
+-- what calls keep, and how they change a block
 pub mod Kept
-pub mod Spent
+pub mod Totals
+pub mod Merging
+pub mod Slots
+pub mod Heads
+-- the paper's examples
+pub mod Examples
+-- on the way to these
+pub mod Sums
+pub mod Fit
+pub mod Choose
+pub mod Put
+pub mod PageRule
+pub mod Effects
 pub mod Track
 pub mod Ranges
 pub mod Holding
-pub mod Apart
-pub mod RunningBest
-pub mod Examples

@@ -5,10 +5,6 @@ use mathlib.Core.List.{List, [], _∷_, reverseAux}
 use mathlib.Core.Path.{_≡_}
 use Rattle.model.specs.Block.{Chunk, sumOf, total, liveSize, allocated}
 
--- how many chunks there are
-abbrev pub count : List Chunk → ℕ
-count cs = sumOf (λ c. 1) cs
-
 -- the sum over the whole is that over both parts
 sum-cut : (f : Chunk → ℕ) (l r : List Chunk) → sumOf f (reverseAux l r) ≡ sumOf f l + sumOf f r
 sum-cut f [] r = omega arith
@@ -21,7 +17,3 @@ total-cut = sum-cut (λ c. c .size)
 -- So are the bytes of the live chunks.
 pub allocated-cut : (l r : List Chunk) → allocated (reverseAux l r) ≡ allocated l + allocated r
 allocated-cut = sum-cut liveSize
-
--- And so is the number of chunks.
-pub count-cut : (l r : List Chunk) → count (reverseAux l r) ≡ count l + count r
-count-cut = sum-cut (λ c. 1)

@@ -4,8 +4,8 @@ use native.Mathlib.Omega.{arith}
 use native.Mathlib.Nat.{mod-lt}
 use native.Mathlib.Numerals.{sub-one}
 use mathlib.Core.Bool.{Bool, true, false, not, cond}
-use mathlib.Core.List.{List, [], _∷_, map}
-use mathlib.Core.Logic.{_≢_, _⊎_, inl, inr, ⊎-elim}
+use mathlib.Core.List.{List, [], _∷_}
+use mathlib.Core.Logic.{_≢_, _⊎_, ⊎-elim}
 use mathlib.Core.Path.{_≡_, refl, sym, ap, _∙_}
 use borrow.Author.Tests.{eq-eqb, ne-eqb}
 use lib.Dec.{eqb, lit<}
@@ -14,7 +14,7 @@ use lib.Seq.{getD-set-same, getD-set-other, set-out}
 use Rattle.laws.specs.Members.{has, has-head, has-same, has-other, not-head, eq-or-not}
 use Rattle.laws.specs.Tests.{cond-cases, either}
 use Rattle.words.specs.Layout.{idAt}
-use Rattle.words.specs.Buckets.{Within, AllZero, headOf, linkOf, chain, idsAt, onChain, isNew, entered}
+use Rattle.words.specs.Buckets.{AllAtMost, AllZero, headOf, linkOf, chain, idsAt, onChain, isNew, entered}
 
 -- ---- `on_chain`
 
@@ -192,7 +192,7 @@ module _ (ws t vs : List ℕ) (k : ℕ) (low : 1 ≤ k) (high : k ≤ 512) (long
 
 -- ---- every head and link stays a slot
 
-within-set : (s : ℕ) (t : List ℕ) (i x : ℕ) → Within s t → x ≤ s → Within s (set t i x)
+within-set : (s : ℕ) (t : List ℕ) (i x : ℕ) → AllAtMost s t → x ≤ s → AllAtMost s (set t i x)
 within-set s t i x w l j = ⊎-elim same-place (λ n. rw (getD-set-other t i j x 0 n) (w j)) (eq-or-not j i)
   where
     same-place : j ≡ i → getD (set t i x) j 0 ≤ s
@@ -201,7 +201,7 @@ within-set s t i x w l j = ⊎-elim same-place (λ n. rw (getD-set-other t i j x
         (λ h. rw (e, getD-set-same t i x 0 h) l)
         (λ h. rw (set-out t i x h) (w j))
 
-pub within-entered : (ws t : List ℕ) (s k : ℕ) → Within s t → k ≤ s → Within s (entered ws t k)
+pub within-entered : (ws t : List ℕ) (s k : ℕ) → AllAtMost s t → k ≤ s → AllAtMost s (entered ws t k)
 unfolding entered
 within-entered ws t s k w l =
     within-set s (set t (linkOf k) (getD t (headOf ws k) 0)) (headOf ws k) k (within-set s t (linkOf k) (getD t (headOf ws k) 0) w (w (headOf ws k))) l

@@ -1,3 +1,4 @@
+-- The laws that the proofs of `words` share. Assumes nothing.
 pub mod Ways
 pub mod Chains
 pub mod Turns

@@ -1,25 +1,23 @@
 -- One turn of the walk's loop: what stands before it, and what each way through it comes to. Assumes nothing.
-use Prim.Native.Nat.{ℕ, suc, _+_, _-_, _%_, _^_, _≤_, _<_}
+use Prim.Native.Nat.{ℕ, _+_, _-_, _%_, _^_, _≤_, _<_}
 use native.Mathlib.Omega.{arith}
 use native.Mathlib.Nat.{mod-eq-of-lt}
-use mathlib.Core.Bool.{Bool, true, false, not, cond, false≢true}
+use mathlib.Core.Bool.{Bool, true, false, not, cond}
 use mathlib.Core.List.{List, [], _∷_}
-use mathlib.Core.Logic.{_≢_}
 use mathlib.Core.Path.{_≡_, refl, sym, ap, _∙_}
 use borrow.Author.Tests.{eqb-true, leb-true, leb-false, le-leb, lt-leb, eq-eqb}
 use lib.Dec.{eqb, leb}
 use lib.ListN.{length}
-use Rattle.laws.specs.Every.{pass, fail, more, none, second}
+use Rattle.laws.specs.Every.{pass, fail, more, none, clash}
 use Rattle.laws.specs.Members.{has}
 use Rattle.laws.specs.Tests.{either}
 use Rattle.model.specs.Block.{liveSize}
 use Rattle.words.specs.Layout.{isTable, table-shape, slotCount, Slot, blockSize, nextId, firstSlot, idAt, sizeAt, firstByteAt, kindAt, nextAt}
-use Rattle.words.specs.Words.{chunkAt, chunksOf}
+use Rattle.words.specs.Words.{chunkAt}
 use Rattle.words.specs.Checks.{linksOk, idOk, kindOk, stepOk, walked, chunksWalked}
-use Rattle.words.specs.Buckets.{Within, AllZero, isNew, entered, idsAt}
+use Rattle.words.specs.Buckets.{AllAtMost, AllZero, isNew, entered, idsAt}
 use Rattle.words.specs.Answers.{isSlot, liveOf, walkEnd}
-use Rattle.words.specs.Walking.{Walking, start, unvisited, stop, past, too-long, go-on, done}
-use Rattle.words.specs.declared.soundness.Live.{Live}
+use Rattle.words.specs.Walking.{Walking, start, unvisited, stop, too-long, go-on, ends, broken}
 use Rattle.words.specs.declared.soundness.Live.the-variants.{Bytes, Broken}
 use Rattle.words.proofs.Ways.{not-ended}
 use Rattle.words.proofs.Chains.{Chains, chains-start, chains-enter, new-id, within-entered}
@@ -30,7 +28,7 @@ pub record Turn (ws t : List ℕ) (prev k first before sum n : ℕ) : Type 0 whe
   pub fuel : ℕ
   pub walking : Walking ws prev k first before sum fuel visited
   pub chains : Chains ws t visited
-  pub within : Within (slotCount ws) t
+  pub within : AllAtMost (slotCount ws) t
   pub count : n ≡ length visited
   pub word : first < 2 ^ 64
 
@@ -49,11 +47,6 @@ pub is-slot : (ws : List ℕ) (k s : ℕ) → s ≡ slotCount ws → isSlot k s 
 unfolding isSlot
 is-slot ws k s e h = (leb-true 1 k (pass _ 0 h), rw (← e) (leb-true k s (pass _ 1 h)))
 
--- a rule is broken
-nothing : (ws : List ℕ) → walked ws ≡ false → 0 ≡ chunksWalked ws
-unfolding chunksWalked
-nothing ws e = rw e
-
 -- what a chunk that keeps the rules adds
 adds : (ws : List ℕ) (before k live : ℕ) → liveOf ws before k ≡ Bytes live → (kindOk ws before k ≡ true) × (live ≡ liveSize (chunkAt ws k))
 unfolding liveOf
@@ -63,9 +56,9 @@ adds ws before k live = go (kindOk ws before k)
     go true e = (refl, cc)
     go false e = let z : _≡_ {A = ℕ} 0 1 = cc in absurd (omega arith)
 
-broken : (ws : List ℕ) (before k : ℕ) → liveOf ws before k ≡ Broken → kindOk ws before k ≡ false
+no-bytes : (ws : List ℕ) (before k : ℕ) → liveOf ws before k ≡ Broken → kindOk ws before k ≡ false
 unfolding liveOf
-broken ws before k = go (kindOk ws before k)
+no-bytes ws before k = go (kindOk ws before k)
   where
     go : (b : Bool) → cond b (Bytes (cond (eqb (kindAt ws k) 0) 0 (sizeAt ws k))) Broken ≡ Broken → b ≡ false
     go true e = let z : _≡_ {A = ℕ} 0 1 = cc in absurd (omega arith)
@@ -80,28 +73,28 @@ module _ {ws t : List ℕ} {prev k first before sum n : ℕ} (turn : Turn ws t p
 
   pub bad-links : Slot ws k → linksOk ws prev first k ≡ false → 0 ≡ chunksWalked ws
   unfolding stepOk
-  bad-links s e = nothing ws (stop (turn .walking) (s .0) (fail _ 1 e))
+  bad-links s e = sym (broken ws (stop (turn .walking) (s .0) (fail _ 1 e)))
 
   pub bad-id : Slot ws k → idOk (idAt ws k) (nextId ws - 1) ≡ false → 0 ≡ chunksWalked ws
   unfolding stepOk
-  bad-id s e = nothing ws (stop (turn .walking) (s .0) (fail _ 2 e))
+  bad-id s e = sym (broken ws (stop (turn .walking) (s .0) (fail _ 2 e)))
 
   pub known-id : isTable ws ≡ true → Slot ws k → isNew ws t k ≡ false → 0 ≡ chunksWalked ws
   unfolding stepOk
-  known-id i s e = nothing ws (stop (turn .walking) (s .0) (fail _ 3 (sym (new-id ws t (turn .visited) k (turn .chains) (fits i)) ∙ e)))
+  known-id i s e = sym (broken ws (stop (turn .walking) (s .0) (fail _ 3 (sym (new-id ws t (turn .visited) k (turn .chains) (fits i)) ∙ e))))
 
   -- The end does not rise: the size is 0, or the sum passes what a word holds, and so the block.
   pub bad-size : (end : ℕ) → blockSize ws < 2 ^ 64 → Slot ws k → end ≡ (first + sizeAt ws k) % 2 ^ 64 → end ≤ first → 0 ≡ chunksWalked ws
   unfolding stepOk
   bad-size end b s e l =
-      nothing ws
+      sym (broken ws
       (either _ (first + sizeAt ws k) (2 ^ 64)
       (λ h. stop (turn .walking) (s .0) (fail _ 4 (lt-leb 1 (sizeAt ws k) (omega (arith, mod-eq-of-lt h)))))
-      (λ h. too-long (turn .walking) (s .0) (omega arith)))
+      (λ h. too-long (turn .walking) (s .0) (omega arith))))
 
   pub bad-kind : Slot ws k → liveOf ws before k ≡ Broken → 0 ≡ chunksWalked ws
   unfolding stepOk
-  bad-kind s e = nothing ws (stop (turn .walking) (s .0) (fail _ 5 (broken ws before k e)))
+  bad-kind s e = sym (broken ws (stop (turn .walking) (s .0) (fail _ 5 (no-bytes ws before k e))))
 
   -- what a turn that passed every test has tested; the end rose, and did not wrap
   pub record Passed (end live : ℕ) : Type 0 where
@@ -116,8 +109,8 @@ module _ {ws t : List ℕ} {prev k first before sum n : ℕ} (turn : Turn ws t p
     pub adds : liveOf ws before k ≡ Bytes live
 
   module _ {end live : ℕ} (p : Passed end live) where
-    pub ends : end ≡ first + sizeAt ws k
-    ends = exact-end first (sizeAt ws k) end (turn .word) (p .word) (p .wraps) (p .rises)
+    pub exactly : end ≡ first + sizeAt ws k
+    exactly = exact-end first (sizeAt ws k) end (turn .word) (p .word) (p .wraps) (p .rises)
 
     step : stepOk ws prev first before (idsAt ws (turn .visited)) k ≡ true
     unfolding stepOk
@@ -126,7 +119,7 @@ module _ {ws t : List ℕ} {prev k first before sum n : ℕ} (turn : Turn ws t p
         (more _ _ (p .links)
         (more _ _ (p .id)
         (more _ _ (sym (new-id ws t (turn .visited) k (turn .chains) (fits (p .table))) ∙ p .new)
-        (more _ _ (le-leb 1 (sizeAt ws k) (omega (arith, ends, p .rises)))
+        (more _ _ (le-leb 1 (sizeAt ws k) (omega (arith, exactly, p .rises)))
         (more _ _ (adds ws before k live (p .adds) .0) none)))))
 
     begins : firstByteAt ws k ≡ first
@@ -136,14 +129,14 @@ module _ {ws t : List ℕ} {prev k first before sum n : ℕ} (turn : Turn ws t p
     -- The walk goes on at the next slot.
     pub next-turn : Turn ws (entered ws t k) k (nextAt ws k) end (kindAt ws k) (sum + live) (n + 1)
     next-turn =
-        rw (ends, adds ws before k live (p .adds) .1) (record {
+        rw (exactly, adds ws before k live (p .adds) .1) (record {
           visited = k ∷ turn .visited;
           fuel = turn .fuel - 1;
           walking = go-on (turn .walking) (p .slot) step;
           chains = chains-enter ws t (turn .visited) k (p .slot .0) (omega (arith, p .slot, table-shape ws (p .table))) (turn .chains .long) (turn .chains) (unvisited (turn .walking) begins);
           within = within-entered ws t (slotCount ws) k (turn .within) (p .slot .1);
           count = omega (arith, turn .count);
-          word = omega (arith, ends, p .wraps);
+          word = omega (arith, exactly, p .wraps);
         })
 
     -- No sum passes what a word holds.
@@ -153,15 +146,9 @@ module _ {ws t : List ℕ} {prev k first before sum n : ℕ} (turn : Turn ws t p
     pub count-fits : n ≤ 512
     count-fits = omega (arith, turn .count, fits (p .table))
 
-  at-end : k ≡ 0 → walkEnd ws k first sum n ≡ chunksWalked ws
-  unfolding walkEnd chunksWalked walked
-  at-end z =
-      let d = done (turn .walking) z in
-      rw (turn .count, d .3, d .1, d .2, eq-eqb k 0 z, d .0)
-
   -- The walk has ended: its answer is that of the whole.
   pub last-turn : (s : ℕ) → s ≡ slotCount ws → isSlot k s ≡ false → walkEnd ws k first sum n ≡ chunksWalked ws
-  unfolding isSlot
+  unfolding isSlot walkEnd
   last-turn s e h =
-      either _ k 1 (λ z. at-end (omega arith)) (λ l.
-      sym (not-ended ws k first sum n (λ (z : k ≡ 0). omega arith)) ∙ nothing ws (past (turn .walking) (leb-false k (slotCount ws) (ap (leb k) (sym e) ∙ sym (second _ _ (le-leb 1 k l)) ∙ h))))
+      rw (turn .count)
+      (ends (turn .walking) (λ p. clash (more _ _ (le-leb 1 k (p .0)) (more _ _ (le-leb k s (rw e (p .1))) none)) h))

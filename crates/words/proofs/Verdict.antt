@@ -1,16 +1,16 @@
 -- The answers of `is_sound`: the head, the walk and the other slots together decide. Assumes nothing.
-use Prim.Native.Nat.{ℕ, _-_, _≤_, _<_}
+use Prim.Native.Nat.{ℕ, _-_, _≤_}
 use native.Mathlib.Nat.{le-trans, le-of-eq}
 use mathlib.Core.Bool.{Bool, true, false}
 use mathlib.Core.List.{List}
 use mathlib.Core.Logic.{_≢_}
-use mathlib.Core.Path.{_≡_, refl, sym, ap, _∙_}
+use mathlib.Core.Path.{_≡_, refl, ap, _∙_}
 use borrow.Author.Tests.{leb-true}
-use lib.ListN.{length, getD, replicate, getD-replicate, length-replicate, List·getD-eq-default}
+use lib.ListN.{replicate, getD-replicate, length-replicate, List·getD-eq-default}
 use Rattle.laws.specs.Every.{pass, more, none, together, clash}
 use Rattle.laws.specs.Tests.{either}
 use Rattle.words.specs.Layout.{isTable, slotCount, blockSize, nextId}
-use Rattle.words.specs.Words.{chunksOf, sound}
+use Rattle.words.specs.Words.{sound}
 use Rattle.words.specs.Buckets.{AllZero}
 use Rattle.words.specs.Checks.{chunksWalked, emptyBelow, checked}
 use Rattle.words.specs.Answers.{headOk}

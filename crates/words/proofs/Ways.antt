@@ -1,20 +1,19 @@
 -- What each way through the parts of the check answers. Assumes nothing.
-use Prim.Native.Nat.{ℕ, zero, suc, _+_, _-_, _≤_, _<_, _^_}
+use Prim.Native.Nat.{ℕ, zero, suc, _-_, _≤_, _<_, _^_}
 use native.Mathlib.Omega.{arith}
 use native.Mathlib.Numerals.{sub-one}
-use mathlib.Core.Bool.{Bool, true, false, not, cond}
+use mathlib.Core.Bool.{true, false, not}
 use mathlib.Core.List.{List, [], _∷_}
 use mathlib.Core.Logic.{_≢_}
 use mathlib.Core.Path.{_≡_, refl, sym, ap, _∙_}
 use borrow.Author.Tests.{eqb-true, lt-leb, le-leb, eq-eqb, ne-eqb}
-use lib.Bits.{bitOr, bitAnd, or-add-and, and-le-l, and-le-r}
+use lib.Bits.{bitOr, or-add-and, and-le-l, and-le-r}
 use lib.Dec.{eqb, leb}
 use lib.ListN.{length}
-use Rattle.laws.specs.Every.{every, pass, fail, more, none, rest, last, second, together}
+use Rattle.laws.specs.Every.{every, pass, fail, more, none, rest, second, together}
 use Rattle.words.specs.Layout.{isTable, slotCount, wordCount, blockSize, allocatedWord, nextId, idAt, sizeAt, firstByteAt, kindAt, labelAt, nextAt, previousAt}
 use Rattle.words.specs.Checks.{linksOk, idOk, kindOk, othersZero, emptyBelow}
 use Rattle.words.specs.Answers.{headOk, isSlot, liveOf, walkEnd}
-use Rattle.words.specs.declared.soundness.Live.{Live}
 use Rattle.words.specs.declared.soundness.Live.the-variants.{Bytes, Broken}
 
 -- ---- `is_table`

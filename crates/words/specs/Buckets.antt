@@ -8,8 +8,8 @@ use Rattle.laws.specs.Members.{has}
 use Rattle.words.specs.Layout.{idAt}
 
 -- every head and every link is 0 or a slot
-abbrev pub Within : ℕ → List ℕ → Type 0
-Within slots t = (i : ℕ) → getD t i 0 ≤ slots
+abbrev pub AllAtMost : ℕ → List ℕ → Type 0
+AllAtMost slots t = (i : ℕ) → getD t i 0 ≤ slots
 
 -- nothing was entered yet
 abbrev pub AllZero : List ℕ → Type 0

@@ -3,7 +3,6 @@ use Prim.Native.Nat.{ℕ, zero, suc, _+_, _^_}
 use mathlib.Core.Bool.{Bool, true, false, not, cond}
 use mathlib.Core.List.{List, [], _∷_, _++_, map}
 use lib.Dec.{eqb, leb, ltb}
-use lib.ListN.{length}
 use Rattle.laws.specs.Every.{every}
 use Rattle.laws.specs.Members.{distinct, same}
 use Rattle.model.specs.Block.{Chunk, Block, total, allocated, isFree}

@@ -4,11 +4,11 @@ ghost use mathlib.Core.Bool.{true, not, cond};
 ghost use mathlib.Core.Path.{_≡_};
 ghost use Prim.Native.Nat.{_≤_};
 ghost use Rattle.words.specs.Layout.{isTable, slotCount, Slot};
-ghost use Rattle.words.specs.Buckets.{Within, onChain, isNew, entered};
+ghost use Rattle.words.specs.Buckets.{AllAtMost, onChain, isNew, entered};
 
 // Whether a slot on the chain from this one has the id. No chain is longer than the slots are many.
 fn on_chain(w: &[u64], buckets: &[u16; 1024], start: u64, id: u64) -> bool
-    requires { ⌜ (isTable (now w) ≡ true) × Within (slotCount (now w)) (now buckets) × (start ≤ slotCount (now w)) ⌝ }
+    requires { ⌜ (isTable (now w) ≡ true) × AllAtMost (slotCount (now w)) (now buckets) × (start ≤ slotCount (now w)) ⌝ }
     ensures { λ r. ⌜ r ≡ onChain (now (w .entry)) (now (buckets .entry)) 512 start id ⌝ }
 {
     let mut k = start;
@@ -28,7 +28,7 @@ fn on_chain(w: &[u64], buckets: &[u16; 1024], start: u64, id: u64) -> bool
 
 // Enters slot k into its id's bucket, where no slot with this id is there yet.
 pub fn enter(w: &[u64], buckets: &mut [u16; 1024], k: u64) -> bool
-    requires { ⌜ (isTable (now w) ≡ true) × Within (slotCount (now w)) (now buckets) × Slot (now w) k ⌝ }
+    requires { ⌜ (isTable (now w) ≡ true) × AllAtMost (slotCount (now w)) (now buckets) × Slot (now w) k ⌝ }
     ensures { λ r. ⌜ r ≡ isNew (now (w .entry)) (now (buckets .entry)) k ⌝ }
     ensures { λ r. ⌜ (r ≡ true → now (buckets .exit) ≡ entered (now (w .entry)) (now (buckets .entry)) k) ⌝ }
 {

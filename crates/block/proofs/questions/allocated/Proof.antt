@@ -1,6 +1,5 @@
 -- `block::questions::allocated` meets its contract. Assumes nothing.
 use Rattle.laws.specs.Tests.{failed, passed}
-use mathlib.Core.Path.{sym}
 use Rattle.block.proofs.Asked.{no-table, not-sound, the-total}
 use borrow.Author.Needs.{needs}
 use Rattle.block.proofs.questions.allocated.Statement.{statement}

@@ -1,3 +1,4 @@
+-- `words::ids::on_chain` meets its contract. Assumes nothing.
 use Prim.Native.Nat.{_+_, _≤_}
 use native.Mathlib.Omega.{arith}
 use mathlib.Core.Path.{_≡_, refl, sym, _∙_}
@@ -6,9 +7,6 @@ use Rattle.words.specs.Buckets.{onChain}
 use Rattle.words.proofs.Chains.{chain-ends, chain-spent, chain-here, chain-on}
 use Rattle.words.proofs.ids.on_chain.Statement.{statement}
 use Rattle.words.proofs.ids.on_chain.Tie as tie
-use Rattle.words.proofs.ids.on_chain.Reads as reads
-use Rattle.words.proofs.ids.on_chain.Lts as lts
-use Rattle.words.proofs.layout.id.Reads as id-reads
 
 abbrev Inv-loop : tie.InvT-loop
 Inv-loop w buckets start id k₀ n₀ k n = (k ≤ slotCount w) × (onChain w buckets n k id ≡ onChain w buckets 512 start id)
@@ -16,51 +14,39 @@ Inv-loop w buckets start id k₀ n₀ k n = (k ≤ slotCount w) × (onChain w bu
 abbrev μ-loop : tie.MeasureT-loop
 μ-loop w buckets start id k₀ n₀ k n = n
 
--- src/ids.rt:17:5
 loop-holds : tie.Need-loop-holds Inv-loop μ-loop
 loop-holds c = (c .before .pre .2, refl)
 
--- src/ids.rt:19:13
 returns : tie.Need-returns Inv-loop μ-loop
 returns c = sym (chain-spent _ _ _ _ _ (c .if1 .taken)) ∙ c .before .before .loop .inv .1
 
--- src/ids.rt:21:12
 id-requires : tie.Need-id-requires Inv-loop μ-loop
 id-requires c κs = omega (arith, c .before .before .loop .inv .0, c .before .loop-test .taken)
 
--- src/ids.rt:22:13
 returns-2 : tie.Need-returns-2 Inv-loop μ-loop
 returns-2 c = sym (chain-here _ _ _ _ _ (c .before .before .if1 .left) (c .before .before .before .loop-test .taken) (sym (c .before .id .ensures) ∙ c .if2 .taken)) ∙ c .before .before .before .before .loop .inv .1
 
--- src/ids.rt:24:21
 add-k : tie.Need-add-k Inv-loop μ-loop
 add-k c = omega (arith, c .before .before .before .before .loop .inv .0, table-shape _ (c .before .before .before .before .before .before .pre .0))
 
--- src/ids.rt:24:13
 mul-k : tie.Need-mul-k Inv-loop μ-loop
 mul-k c = omega (arith, c .before .before .before .before .loop .inv .0, table-shape _ (c .before .before .before .before .before .before .pre .0))
 
--- src/ids.rt:24:13
 element-copy-out-k : tie.Need-element-copy-out-k Inv-loop μ-loop
 element-copy-out-k c = omega (arith, c .before .before .before .before .loop .inv .0, table-shape _ (c .before .before .before .before .before .before .pre .0))
 
--- src/ids.rt:24:13
 cast-k : tie.Need-cast-k Inv-loop μ-loop
 cast-k c = omega (arith, c .before .before .before .before .before .before .before .pre .1 (511 + c .before .before .before .before .before .loop .k), table-shape _ (c .before .before .before .before .before .before .before .pre .0))
 
--- src/ids.rt:25:9
 sub-n : tie.Need-sub-n Inv-loop μ-loop
 sub-n c = omega (arith, c .before .before .before .if1 .left)
 
--- src/ids.rt:17:5
 loop-less : tie.Need-loop-less Inv-loop μ-loop
 loop-less c = omega (arith, c .before .before .before .if1 .left)
 
--- src/ids.rt:17:5
 loop-again : tie.Need-loop-again Inv-loop μ-loop
 loop-again c = (c .before .before .before .before .before .before .before .pre .1 _, sym (chain-on _ _ _ _ _ (c .before .before .before .if1 .left) (c .before .before .before .before .loop-test .taken) (λ e. c .before .if2 .left (c .before .before .id .ensures ∙ e))) ∙ c .before .before .before .before .before .loop .inv .1)
 
--- src/ids.rt:10:1
 returns-3 : tie.Need-returns-3 Inv-loop μ-loop
 returns-3 c = sym (chain-ends _ _ _ _ _ (c .loop-test .left)) ∙ c .before .loop .inv .1
 

@@ -1,3 +1,4 @@
+-- `words::soundness::rest_empty` meets its contract. Assumes nothing.
 use Rattle.laws.specs.Tests.{failed, passed}
 use Prim.Native.Nat.{_≤_}
 use native.Mathlib.Omega.{arith}
@@ -7,10 +8,6 @@ use Rattle.words.specs.Checks.{emptyBelow}
 use Rattle.words.proofs.Ways.{found-all, none-left, skip-used, not-empty, one-found}
 use Rattle.words.proofs.soundness.rest_empty.Statement.{statement}
 use Rattle.words.proofs.soundness.rest_empty.Tie as tie
-use Rattle.words.proofs.soundness.rest_empty.Reads as reads
-use Rattle.words.proofs.soundness.rest_empty.Lts as lts
-use Rattle.words.proofs.layout.id.Reads as id-reads
-use Rattle.words.proofs.soundness.others_zero.Reads as others-zero-reads
 
 abbrev Inv-loop : tie.InvT-loop
 Inv-loop w s empty k₀ left₀ k left = (k ≤ slotCount w) × (emptyBelow w k left ≡ emptyBelow w s empty)
@@ -18,55 +15,42 @@ Inv-loop w s empty k₀ left₀ k left = (k ≤ slotCount w) × (emptyBelow w k 
 abbrev μ-loop : tie.MeasureT-loop
 μ-loop w s empty k₀ left₀ k left = k
 
--- src/soundness.rt:145:5
 loop-holds : tie.Need-loop-holds Inv-loop μ-loop
 loop-holds c = (omega (arith, c .before .pre), refl)
 
--- src/soundness.rt:147:13
 returns : tie.Need-returns Inv-loop μ-loop
 returns c = sym (none-left _ _ _ (c .if1 .taken) (c .before .loop-test .taken)) ∙ c .before .before .loop .inv .1
 
--- src/soundness.rt:149:12
 id-requires : tie.Need-id-requires Inv-loop μ-loop
 id-requires c κs = omega (arith, c .before .before .loop .inv .0, c .if1 .left)
 
--- src/soundness.rt:150:13
 sub-k : tie.Need-sub-k Inv-loop μ-loop
 sub-k c = omega (arith, c .before .before .if1 .left)
 
--- src/soundness.rt:145:5
 loop-less : tie.Need-loop-less Inv-loop μ-loop
 loop-less c = omega (arith, c .before .before .if1 .left)
 
--- src/soundness.rt:145:5
 loop-again : tie.Need-loop-again Inv-loop μ-loop
 loop-again c = (omega (arith, c .before .before .before .before .loop .inv .0), sym (skip-used _ _ _ (c .before .before .if1 .left) (c .before .before .before .loop-test .taken) (λ e. c .if2 .taken (c .before .id .ensures ∙ e))) ∙ c .before .before .before .before .loop .inv .1)
 
--- src/soundness.rt:153:13
 others-zero-requires : tie.Need-others-zero-requires Inv-loop μ-loop
 others-zero-requires c κs = omega (arith, c .before .before .before .before .loop .inv .0, c .before .before .if1 .left)
 
--- src/soundness.rt:154:13
 returns-2 : tie.Need-returns-2 Inv-loop μ-loop
 returns-2 c = sym (not-empty _ _ _ (c .before .before .before .before .if1 .left) (c .before .before .before .before .before .loop-test .taken) (sym (c .before .before .before .id .ensures) ∙ c .before .before .if2 .left) (failed (c .before .others-zero .ensures) (c .if3 .taken))) ∙ c .before .before .before .before .before .before .loop .inv .1
 
--- src/soundness.rt:156:9
 sub-k-2 : tie.Need-sub-k-2 Inv-loop μ-loop
 sub-k-2 c = omega (arith, c .before .before .before .before .if1 .left)
 
--- src/soundness.rt:157:9
 sub-left : tie.Need-sub-left Inv-loop μ-loop
 sub-left c = omega (arith, c .before .before .before .before .before .loop-test .taken)
 
--- src/soundness.rt:145:5
 loop-less-2 : tie.Need-loop-less-2 Inv-loop μ-loop
 loop-less-2 c = omega (arith, c .before .before .before .before .if1 .left)
 
--- src/soundness.rt:145:5
 loop-again-2 : tie.Need-loop-again-2 Inv-loop μ-loop
 loop-again-2 c = (omega (arith, c .before .before .before .before .before .before .loop .inv .0), sym (one-found _ _ _ (c .before .before .before .before .if1 .left) (c .before .before .before .before .before .loop-test .taken) (sym (c .before .before .before .id .ensures) ∙ c .before .before .if2 .left) (passed (c .before .others-zero .ensures) (c .if3 .left))) ∙ c .before .before .before .before .before .before .loop .inv .1)
 
--- src/soundness.rt:139:1
 returns-3 : tie.Need-returns-3 Inv-loop μ-loop
 returns-3 c = found-all _ _ _ (c .loop-test .left) ∙ c .before .loop .inv .1
 

@@ -1,28 +1,14 @@
+-- `words::soundness::walk` meets its contract. Assumes nothing.
 use Prim.Native.Nat.{_-_, _^_}
 use native.Mathlib.Omega.{arith}
-use mathlib.Core.Path.{_≡_, refl, sym, _∙_}
+use mathlib.Core.Path.{sym, _∙_}
 use borrow.Author.Needs.{needs}
 use denote.Ref.{now}
 use Rattle.words.specs.Layout.{at, Slot}
 use Rattle.laws.specs.Tests.{failed, passed}
-use Rattle.words.proofs.Turns.{Turn, first-turn, is-slot, bad-links, bad-id, known-id, bad-size, bad-kind, Passed, ends, next-turn, live-fits, count-fits, last-turn}
+use Rattle.words.proofs.Turns.{Turn, first-turn, is-slot, bad-links, bad-id, known-id, bad-size, bad-kind, Passed, exactly, next-turn, live-fits, count-fits, last-turn}
 use Rattle.words.proofs.soundness.walk.Statement.{statement}
 use Rattle.words.proofs.soundness.walk.Tie as tie
-use Rattle.words.proofs.soundness.walk.Reads as reads
-use Rattle.words.proofs.soundness.walk.Lts as lts
-use Rattle.std.proofs.num.wrapping_add_u64.Reads as wrapping-add-u64-reads
-use Rattle.words.proofs.ids.enter.Reads as enter-reads
-use Rattle.words.proofs.layout.first_slot.Reads as first-slot-reads
-use Rattle.words.proofs.layout.id.Reads as id-reads
-use Rattle.words.proofs.layout.kind.Reads as kind-reads
-use Rattle.words.proofs.layout.next.Reads as next-reads
-use Rattle.words.proofs.layout.next_id.Reads as next-id-reads
-use Rattle.words.proofs.layout.size.Reads as size-reads
-use Rattle.words.proofs.soundness.id_ok.Reads as id-ok-reads
-use Rattle.words.proofs.soundness.is_slot.Reads as is-slot-reads
-use Rattle.words.proofs.soundness.links_ok.Reads as links-ok-reads
-use Rattle.words.proofs.soundness.live_bytes.Reads as live-bytes-reads
-use Rattle.words.proofs.soundness.walk_end.Reads as walk-end-reads
 
 abbrev Inv-loop : tie.InvT-loop
 Inv-loop w s buckets₀ top prev₀ k₀ first₀ before₀ sum₀ n₀ buckets prev k first before sum n = Turn w buckets prev k first before sum n
@@ -30,23 +16,18 @@ Inv-loop w s buckets₀ top prev₀ k₀ first₀ before₀ sum₀ n₀ buckets 
 abbrev μ-loop : tie.MeasureT-loop
 μ-loop w s buckets₀ top prev₀ k₀ first₀ before₀ sum₀ n₀ buckets prev k first before sum n = 2 ^ 64 - first
 
--- src/soundness.rt:72:15
 next-id-requires : tie.Need-next-id-requires Inv-loop μ-loop
 next-id-requires c κs = c .before .pre .0
 
--- src/soundness.rt:72:15
 sub-top : tie.Need-sub-top Inv-loop μ-loop
 sub-top c = omega (arith, c .next-id .ensures, c .before .before .pre .2)
 
--- src/soundness.rt:74:9
 first-slot-requires : tie.Need-first-slot-requires Inv-loop μ-loop
 first-slot-requires c κs = c .before .before .pre .0
 
--- src/soundness.rt:79:5
 loop-holds : tie.Need-loop-holds Inv-loop μ-loop
 loop-holds c = rw (c .first-slot .ensures) (first-turn _ _ (c .before .before .before .pre .3) (c .before .before .before .pre .4))
 
--- src/soundness.rt:79:11
 is-slot-requires : tie.Need-is-slot-requires Inv-loop μ-loop
 is-slot-requires c κs = search needs
 
@@ -54,59 +35,45 @@ is-slot-requires c κs = search needs
 slot : (c : tie.Then1 Inv-loop μ-loop) → Slot (now (c .before .before .before .before .before .before .args .w)) (c .before .before .loop .k)
 slot c = is-slot (now (c .before .before .before .before .before .before .args .w)) _ _ (c .before .before .before .before .before .before .pre .1) (sym (c .before .is-slot .ensures) ∙ c .if1 .taken)
 
--- src/soundness.rt:80:13
 links-ok-requires : tie.Need-links-ok-requires Inv-loop μ-loop
 links-ok-requires c κs = slot c
 
--- src/soundness.rt:81:13
 returns : tie.Need-returns Inv-loop μ-loop
 returns c = bad-links (c .before .before .before .before .loop .inv) (slot (c .before .before)) (failed (c .before .links-ok .ensures) (c .if2 .taken))
 
--- src/soundness.rt:83:19
 id-requires : tie.Need-id-requires Inv-loop μ-loop
 id-requires c κs = slot (c .before .before)
 
--- src/soundness.rt:83:13
 id-ok-requires : tie.Need-id-ok-requires Inv-loop μ-loop
 id-ok-requires c κs = search needs
 
--- src/soundness.rt:84:13
 returns-2 : tie.Need-returns-2 Inv-loop μ-loop
 returns-2 c = bad-id (c .before .before .before .before .before .before .before .loop .inv) (slot (c .before .before .before .before .before)) (rw (← (c .before .before .id .ensures), ← (c .before .before .before .before .before .before .before .before .before .next-id .ensures)) (failed (c .before .id-ok .ensures) (c .if3 .taken)))
 
--- src/soundness.rt:86:13
 enter-requires : tie.Need-enter-requires Inv-loop μ-loop
 enter-requires c κs = (c .before .before .before .before .before .before .before .before .before .before .before .before .pre .0, c .before .before .before .before .before .before .before .before .loop .inv .within, slot (c .before .before .before .before .before .before))
 
--- src/soundness.rt:87:13
 returns-3 : tie.Need-returns-3 Inv-loop μ-loop
 returns-3 c = known-id (c .before .before .before .before .before .before .before .before .before .before .loop .inv) (c .before .before .before .before .before .before .before .before .before .before .before .before .before .before .pre .0) (slot (c .before .before .before .before .before .before .before .before)) (failed (c .before .enter .ensures .0) (c .if4 .taken))
 
--- src/soundness.rt:90:53
 size-requires : tie.Need-size-requires Inv-loop μ-loop
 size-requires c κs = slot (c .before .before .before .before .before .before .before .before)
 
--- src/soundness.rt:90:13
 wrapping-add-u64-requires : tie.Need-wrapping-add-u64-requires Inv-loop μ-loop
 wrapping-add-u64-requires c κs = search needs
 
--- src/soundness.rt:92:13
 returns-4 : tie.Need-returns-4 Inv-loop μ-loop
 returns-4 c = bad-size (c .before .before .before .before .before .before .before .before .before .before .before .before .before .loop .inv) (c .before .wrapping-add-u64 .result) (omega (arith, c .before .before .before .before .before .before .before .before .before .before .before .before .before .before .before .before .shared-slice-known .given 0)) (slot (c .before .before .before .before .before .before .before .before .before .before .before)) (rw (← (c .before .before .size .ensures)) (c .before .wrapping-add-u64 .ensures)) (omega (arith, c .if5 .taken))
 
--- src/soundness.rt:94:33
 live-bytes-requires : tie.Need-live-bytes-requires Inv-loop μ-loop
 live-bytes-requires c κs = slot (c .before .before .before .before .before .before .before .before .before .before .before)
 
--- src/soundness.rt:94:25
 enum-known-live : tie.Need-enum-known-live Inv-loop μ-loop
 enum-known-live c = search needs
 
--- src/soundness.rt:95:13
 enum-told : tie.Need-enum-told Inv-loop μ-loop
 enum-told c = search needs
 
--- src/soundness.rt:95:13
 returns-5 : tie.Need-returns-5 Inv-loop μ-loop
 returns-5 c = bad-kind (c .before .before .before .before .before .before .before .before .before .before .before .before .before .before .before .before .loop .inv) (slot (c .before .before .before .before .before .before .before .before .before .before .before .before .before .before)) (sym (c .before .before .live-bytes .ensures) ∙ c .enum-told .given .1)
 
@@ -124,35 +91,27 @@ all c = record {
   adds = sym (c .before .before .before .live-bytes .ensures) ∙ c .before .live .given .1;
 }
 
--- src/soundness.rt:97:9
 add-sum : tie.Need-add-sum Inv-loop μ-loop
-add-sum c = omega (arith, live-fits _ (all c), ends _ (all c), all c .wraps)
+add-sum c = omega (arith, live-fits _ (all c), exactly _ (all c), all c .wraps)
 
--- src/soundness.rt:98:9
 kind-requires : tie.Need-kind-requires Inv-loop μ-loop
 kind-requires c κs = slot (c .before .before .before .before .before .before .before .before .before .before .before .before .before .before .before)
 
--- src/soundness.rt:101:9
 next-requires : tie.Need-next-requires Inv-loop μ-loop
 next-requires c κs = slot (c .before .before .before .before .before .before .before .before .before .before .before .before .before .before .before .before)
 
--- src/soundness.rt:102:9
 add-n : tie.Need-add-n Inv-loop μ-loop
 add-n c = omega (arith, count-fits _ (all (c .before .before)))
 
--- src/soundness.rt:79:5
 loop-less : tie.Need-loop-less Inv-loop μ-loop
 loop-less c = omega (arith, all (c .before .before) .rises, all (c .before .before) .wraps)
 
--- src/soundness.rt:79:5
 loop-again : tie.Need-loop-again Inv-loop μ-loop
 loop-again c = rw (c .next .ensures, c .before .kind .ensures, c .before .before .before .before .before .before .before .before .before .before .enter .ensures .1 (c .before .before .before .before .before .before .before .before .before .before .enter .ensures .0 ∙ all (c .before .before) .new)) (next-turn _ (all (c .before .before)))
 
--- src/soundness.rt:104:5
 walk-end-requires : tie.Need-walk-end-requires Inv-loop μ-loop
 walk-end-requires c κs = c .before .before .before .before .before .before .pre .0
 
--- src/soundness.rt:68:1
 returns-6 : tie.Need-returns-6 Inv-loop μ-loop
 returns-6 c = c .walk-end .ensures ∙ last-turn (c .before .before .before .loop .inv) _ (c .before .before .before .before .before .before .before .pre .1) (sym (c .before .before .is-slot .ensures) ∙ c .before .if1 .left)
 
