@@ -3,9 +3,9 @@
 use std::hint::black_box;
 use std::panic::catch_unwind;
 
-use lunkaseyo::{fmt_bytes, AllocationSizes, Refusal};
+use lunkaseyo::{fmt_bytes, AllocationSizes, Block, Refusal};
 use lunkaseyo_compare::boundary::MB;
-use lunkaseyo_compare::rust;
+use lunkaseyo_compare::rust::{self, FreeListAllocator, SubAllocator};
 
 fn number<T>(answer: Result<T, Refusal>) -> Option<u64> {
     answer.err().map(Refusal::number)
@@ -42,4 +42,33 @@ fn a_sum_that_passes_the_largest_number() {
     // The function here is not exported; that it answers 2^63 is what its contract says.
     let half = 1 << 63;
     assert!(catch_unwind(|| black_box(rust::align_up(black_box(half), half))).is_err());
+}
+
+#[test]
+fn blocks_of_no_bytes_and_of_too_many() {
+    for size in [0, (1 << 40) + 1] {
+        let theirs = FreeListAllocator::new(size);
+        assert_eq!(theirs.allocated(), 0);
+        assert_eq!(theirs.chunks.len(), 1);
+        assert!(theirs.chunks.values().all(|chunk| chunk.size == size));
+
+        let mut words = [7; Block::words(1)];
+        assert_eq!(number(Block::new(&mut words, size)), Some(13));
+        assert_eq!(words, [7; Block::words(1)]);
+    }
+}
+
+#[test]
+fn a_total_that_the_chunks_do_not_bear_out() {
+    let mut theirs = FreeListAllocator::new(16);
+    theirs.allocated = 5;
+    assert_eq!(theirs.allocated(), 5);
+    assert!(!theirs.is_empty());
+
+    let mut words = [0; Block::words(1)];
+    Block::new(&mut words, 16).expect("16 bytes are a block");
+    words[1] = 5;
+    let ours = Block::over(&mut words);
+    assert_eq!(number(ours.allocated()), Some(2));
+    assert_eq!(number(ours.is_empty()), Some(2));
 }
