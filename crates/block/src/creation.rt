@@ -22,6 +22,7 @@ impl Created {
     }
 }
 
+// 1 to 2^40 bytes.
 fn is_block_size(size: u64) -> bool
     ensures { λ r. ⌜ r ≡ isBlockSize size ⌝ }
 {

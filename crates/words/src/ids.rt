@@ -1,6 +1,6 @@
 // Ids by buckets: 512 heads, then for each slot a link to the slot before it in its bucket. 0 ends a chain.
 use crate::layout;
-ghost use mathlib.Core.Bool.{true, not, cond};
+ghost use mathlib.Core.Bool.{true};
 ghost use mathlib.Core.Path.{_≡_};
 ghost use Prim.Native.Nat.{_≤_};
 ghost use Rattle.words.specs.Layout.{isTable, slotCount, Slot};

@@ -26,6 +26,7 @@ fn is_slot(k: u64, s: u64) -> bool
     k <= s
 }
 
+// Whether slot k can follow slot prev, at the address first.
 fn links_ok(w: &[u64], prev: u64, first: u64, k: u64) -> bool
     requires { ⌜ Slot (now w) k ⌝ }
     ensures { λ r. ⌜ r ≡ linksOk (now (w .entry)) prev first k ⌝ }
@@ -36,6 +37,7 @@ fn links_ok(w: &[u64], prev: u64, first: u64, k: u64) -> bool
     layout::previous(w, k) == prev
 }
 
+// Whether an id was handed out: top is the highest that was.
 fn id_ok(id: u64, top: u64) -> bool
     ensures { λ r. ⌜ r ≡ idOk id top ⌝ }
 {
@@ -45,6 +47,7 @@ fn id_ok(id: u64, top: u64) -> bool
     id <= top
 }
 
+// before is the kind of the chunk before, since no two neighbours may be free.
 fn live_bytes(w: &[u64], before: u64, k: u64) -> Live
     requires { ⌜ Slot (now w) k ⌝ }
     ensures { λ r. ⌜ r ≡ liveOf (now (w .entry)) before k ⌝ }
@@ -159,6 +162,7 @@ fn rest_empty(w: &[u64], s: u64, empty: u64) -> bool
     true
 }
 
+// Whether the block size is 1 to 2^40 and the next id at least 2.
 fn head_ok(w: &[u64]) -> bool
     requires { ⌜ isTable (now w) ≡ true ⌝ }
     ensures { λ r. ⌜ r ≡ headOk (now (w .entry)) ⌝ }
@@ -173,6 +177,7 @@ fn head_ok(w: &[u64]) -> bool
     2 <= layout::next_id(w)
 }
 
+// Whether words of a table keep its rules. A call has tested their count before.
 pub fn is_sound(w: &[u64]) -> bool
     requires { ⌜ isTable (now w) ≡ true ⌝ }
     ensures { λ r. ⌜ r ≡ sound (now (w .entry)) ⌝ }
