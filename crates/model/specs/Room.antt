@@ -1,18 +1,37 @@
 -- Demand 3, its first half: when a request is told 'no room', and where an accepted one is put. Assumes nothing.
 use Prim.Native.Nat.{ℕ, _+_, _%_, _≤_, _<_}
 use native.Mathlib.Omega.{arith}
-use mathlib.Core.Logic.{_↔_, _≢_}
+use mathlib.Core.List.{List, [], _∷_}
+use mathlib.Core.Logic.{_↔_, _≢_, _⊎_, inl, inr, ⊎-elim}
 use mathlib.Core.Option.{Option, none, some}
 use mathlib.Core.Path.{_≡_, refl, sym, ap, _∙_}
 use Rattle.laws.specs.Reply.{accepted, refused, number, not-refused}
-use Rattle.pages.specs.Vulkan.{OneLinear, PagesApart}
-use Rattle.model.specs.Block.{Block, Spot, first}
+use Rattle.pages.specs.Vulkan.{Resource, OneLinear, PagesApart}
+use Rattle.model.specs.Block.{Chunk, Block, Spot, total, first}
 use Rattle.model.specs.Choose.{Cut, same-spot}
 use Rattle.model.specs.PageRule.{before-rule, after-rule}
-use Rattle.model.specs.Placing.{Request, Placed, chunkBefore, chunkAfter, asked, offsetIn, taken, chosen, newSlot, takeWhole, splitOff, placeIn, place}
+use Rattle.model.specs.Placing.{Request, Placed, lastOf, nextOf, asked, offsetIn, taken, chosen, newSlot, takeWhole, splitOff, placeIn, place}
 use Rattle.model.specs.Put.{Lowest, Choice, FitsIn, pieceIn, wholeIn, answers, opened, choice-fits}
 use Rattle.model.specs.Requests.{WellFormed, formed}
 use Rattle.model.specs.Soundness.{Sound}
+
+-- so many bytes of a kind, from an offset on, as Vulkan's rule takes them
+abbrev pub bytes : ℕ → ℕ → ℕ → Resource
+bytes offset size kind = record { offset = offset; size = size; kind = kind }
+
+-- Vulkan's rule between the bytes of two ranges: one linear and the other not, they keep to pages of their own
+abbrev pub Keeps : ℕ → Resource → Resource → Type 0
+Keeps granularity A B = OneLinear A B → PagesApart granularity A B
+
+-- the rule between the nearest of the chunks on the left, where there is one, and the request's bytes
+abbrev pub KeepsBefore : Request → ℕ → List Chunk → Type 0
+KeepsBefore r offset [] = Unit {0}
+KeepsBefore r offset (c ∷ left) = Keeps (r .granularity) (bytes (total left) (c .size) (c .kind)) (bytes offset (r .size) (r .kind))
+
+-- and between them and the nearest of the chunks on the right, which begins at the address
+abbrev pub KeepsAfter : Request → ℕ → ℕ → List Chunk → Type 0
+KeepsAfter r offset address [] = Unit {0}
+KeepsAfter r offset address (c ∷ right) = Keeps (r .granularity) (bytes offset (r .size) (r .kind)) (bytes address (c .size) (c .kind))
 
 -- the request may have the bytes from the offset on, in the chunk of z
 pub record Room (r : Request) (b : Block) (z : Spot) (offset : ℕ) : Type 0 where
@@ -25,9 +44,9 @@ pub record Room (r : Request) (b : Block) (z : Spot) (offset : ℕ) : Type 0 whe
   -- the bytes lie in the chunk
   pub above : first z ≤ offset
   pub below : offset + r .size ≤ first z + z .chunk .size
-  -- Vulkan's rule holds between the chunk before and them, and between them and the chunk after
-  pub before : OneLinear (chunkBefore z) (asked r offset) → PagesApart (r .granularity) (chunkBefore z) (asked r offset)
-  pub after : OneLinear (asked r offset) (chunkAfter z) → PagesApart (r .granularity) (asked r offset) (chunkAfter z)
+  -- they keep Vulkan's rule with the chunk before, by its last byte, and with the chunk after, by its recorded first byte
+  pub before : KeepsBefore r offset (z .left)
+  pub after : KeepsAfter r offset (first z + z .chunk .size) (z .right)
 
 -- an accepted request: its place, and the id and the block that come of it
 pub record Taken (r : Request) (b : Block) (p : Placed) : Type 0 where
@@ -40,6 +59,21 @@ pub record Taken (r : Request) (b : Block) (p : Placed) : Type 0 where
   pub part : taken r spot < spot .chunk .size
       → (p .id ≡ b .next) × (p .block ≡ splitOff r spot b) × (newSlot b ≤ b .slots)
 
+-- ---- where there is no neighbour the rule says nothing
+
+dead : (A B : Resource) → (A .kind ≡ 0) ⊎ (B .kind ≡ 0) → OneLinear A B → ⊥
+dead A B (inl e) o = ⊎-elim (λ (p : (A .kind ≡ 1) × (B .kind ≡ 2)). omega arith) (λ (p : (A .kind ≡ 2) × (B .kind ≡ 1)). omega arith) o
+dead A B (inr e) o = ⊎-elim (λ (p : (A .kind ≡ 1) × (B .kind ≡ 2)). omega arith) (λ (p : (A .kind ≡ 2) × (B .kind ≡ 1)). omega arith) o
+
+before-exactly : (r : Request) (o : ℕ) (left : List Chunk) → Keeps (r .granularity) (lastOf left) (asked r o) ↔ KeepsBefore r o left
+before-exactly r o [] = (λ k. tt, λ k l. absurd (dead (lastOf []) (asked r o) (inl refl) l))
+before-exactly r o (c ∷ left) = (λ k. k, λ k. k)
+
+after-exactly : (r : Request) (o address : ℕ) (right : List Chunk)
+    → Keeps (r .granularity) (asked r o) (nextOf address right) ↔ KeepsAfter r o address right
+after-exactly r o address [] = (λ k. tt, λ k l. absurd (dead (asked r o) (nextOf address []) (inr refl) l))
+after-exactly r o address (c ∷ right) = (λ k. k, λ k. k)
+
 module _ (r : Request) (h : WellFormed r) (b : Block) (sound : Sound b) where
   -- ---- to fit by the tests is to have room
 
@@ -51,8 +85,8 @@ module _ (r : Request) (h : WellFormed r) (b : Block) (sound : Sound b) where
       aligned = k .aligned;
       above = k .above;
       below = k .below;
-      before = before-rule r h b sound z (k .cut) o (k .above) (k .below) .1 (k .before);
-      after = after-rule r h b sound z (k .cut) o (k .above) (k .below) .1 (k .after);
+      before = before-rule r h b sound z (k .cut) o (k .above) (k .below) .1 (before-exactly r o (z .left) .1 (k .before));
+      after = after-rule r h b sound z (k .cut) o (k .above) (k .below) .1 (after-exactly r o _ (z .right) .1 (k .after));
     };
   }
 
@@ -65,8 +99,8 @@ module _ (r : Request) (h : WellFormed r) (b : Block) (sound : Sound b) where
         aligned = f .aligned;
         above = f .above;
         below = f .below;
-        before = before-rule r h b sound z (k .cut) o (f .above) (f .below) .0 (f .before);
-        after = after-rule r h b sound z (k .cut) o (f .above) (f .below) .0 (f .after);
+        before = before-exactly r o (z .left) .0 (before-rule r h b sound z (k .cut) o (f .above) (f .below) .0 (f .before));
+        after = after-exactly r o _ (z .right) .0 (after-rule r h b sound z (k .cut) o (f .above) (f .below) .0 (f .after));
       }
 
   -- What is chosen has room, and is the best that has; or there is no room.
