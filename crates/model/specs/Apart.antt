@@ -1,4 +1,4 @@
--- Demand 3, its second half: after any calls on a fresh block the live ranges are apart. Assumes nothing.
+-- Demand 3, its second half: after any calls the live ranges are apart, and are the live chunks'. Assumes nothing.
 use Prim.Native.Nat.{ℕ, _+_, _-_, _^_, _≤_, _<_}
 use native.Mathlib.Omega.{arith}
 use mathlib.Core.List.{List, [], _∷_, List·Memᴰ}
@@ -9,7 +9,8 @@ use Rattle.laws.specs.Lists.{All, Pairwise, all-at, all-of, pair-at}
 use Rattle.laws.specs.Powers.{Pow2, pow2-pos}
 use Rattle.laws.specs.Reply.{Reply, accepted, refused}
 use Rattle.laws.specs.Rounding.{alignDown, down-mono}
-use Rattle.model.specs.Block.{Block}
+use Rattle.model.specs.Block.{Block, Spot, first}
+use Rattle.model.specs.Choose.{Cut}
 use Rattle.model.specs.GivingBack.{release, rename}
 use Rattle.model.specs.Holding.{Holding, hold-place, hold-free, hold-rename, hold-fresh}
 use Rattle.model.specs.Placing.{Placed, place}
@@ -17,7 +18,7 @@ use Rattle.model.specs.Put.{accepted-formed}
 use Rattle.model.specs.Ranges.{DifferentNames}
 use Rattle.model.specs.Runs.{Call, allocate, free, renameTo, Range, State, afterPlace, afterFree, afterRename, step, run, begin}
 use Rattle.model.specs.Soundness.{Sound}
-use Rattle.model.specs.Track.{Before, within}
+use Rattle.model.specs.Track.{Holds, Before, range-of, chunk-of, within}
 
 -- ---- any calls
 
@@ -60,6 +61,10 @@ module _ (G bytes : ℕ) (pg : Pow2 G) where
 abbrev pub In : ℕ → Range → Type 0
 In p x = (x .offset ≤ p) × (p < x .offset + x .size)
 
+-- Every byte of a range is in it, from the one at its offset on, as many as its size says.
+pub each-byte : (x : Range) (k : ℕ) → k < x .size → In (x .offset + k) x
+each-byte x k l = (omega arith, omega arith)
+
 -- two ranges have different ids and no byte in common, and where their kinds differ no byte of the one lies on a page
 -- of G bytes with a byte of the other
 pub record Apart (G : ℕ) (x y : Range) : Type 0 where
@@ -95,6 +100,10 @@ module _ (G : ℕ) (pos : 0 < G) where
     live-apart xs live b (λ y m. k y (List·Memᴰ·tail m)) (d .1),
   )
 
+-- the range x stands in the chunk of z: it has its id and its kind and ends where it ends, and before it is padding
+abbrev pub Stands : Range → Spot → Type 0
+Stands x z = Holds (first z) (z .chunk) x
+
 module _ (size slots : ℕ) (some : 1 ≤ size) (most : size ≤ 2 ^ 40) (one : 1 ≤ slots) (last : slots ≤ 512) (cs : List Call) where
   -- After any calls on a fresh block, refused ones among them, where every accepted allocation named a granularity of
   -- at least G, a power of two: any two of the ranges that were handed out and not given back have different ids and no
@@ -103,7 +112,7 @@ module _ (size slots : ℕ) (some : 1 ≤ size) (most : size ≤ 2 ^ 40) (one : 
       → Pairwise (Apart G) (run cs (begin size slots) .live)
   ranges-apart G pg h =
       let inv = hold-run G size pg cs (begin size slots) (hold-fresh G size slots some most one last) h in
-      live-apart G (pow2-pos pg) (inv .ranges) _ (inv .ordered) (inv .known) (inv .distinct)
+      live-apart G (pow2-pos pg) (inv .ranges) _ (inv .ordered) (λ x. inv .known x .0) (inv .distinct)
 
   any : Holding 1 size (run cs (begin size slots))
   any =
@@ -124,8 +133,20 @@ module _ (size slots : ℕ) (some : 1 ≤ size) (most : size ≤ 2 ^ 40) (one : 
   ranges-within =
       let inside = within size (omega (arith, any .sound .whole, any .size)) (any .track) in
       all-of (λ x. x .offset + x .size ≤ size) (run cs (begin size slots) .live)
-      (λ x m. all-at (λ y. y .offset + y .size ≤ size) (any .ranges) inside x (any .known x m))
+      (λ x m. all-at (λ y. y .offset + y .size ≤ size) (any .ranges) inside x (any .known x .0 m))
 
   -- And the block is sound after any calls.
   pub run-sound : Sound (run cs (begin size slots) .block)
   run-sound = any .sound
+
+  -- After any calls, whatever the granularities, every live chunk of the block has its range among those that were
+  -- handed out and not given back.
+  pub live-chunk : (z : Spot) → Cut (run cs (begin size slots) .block .chunks) z → z .chunk .kind ≢ 0
+      → (x : Range) × List·Memᴰ x (run cs (begin size slots) .live) × Stands x z
+  live-chunk z cut n =
+      let k = range-of z (any .ranges) n (rw cut (any .track)) in (k .0, any .known (k .0) .1 (k .1), k .2)
+
+  -- And each of those ranges stands in a live chunk of the block.
+  pub live-range : (x : Range) → List·Memᴰ x (run cs (begin size slots) .live)
+      → (z : Spot) × Cut (run cs (begin size slots) .block .chunks) z × (z .chunk .kind ≢ 0) × Stands x z
+  live-range x m = chunk-of [] x (any .track) (any .known x .0 m)

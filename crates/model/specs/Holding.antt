@@ -1,11 +1,11 @@
--- The ranges that were handed out and not given back stand in live chunks, and every call keeps it so. Assumes nothing.
+-- The ranges handed out and not given back are those of the live chunks, and every call keeps it so. Assumes nothing.
 use Prim.Native.Nat.{ℕ, _+_, _-_, _^_, _≤_, _<_}
 use native.Mathlib.Nat.{add-comm}
 use native.Mathlib.Omega.{arith}
 use mathlib.Core.Bool.{true}
-use mathlib.Core.List.{List, [], _∷_, reverseAux, List·Memᴰ, List·Memᴰ·not-nil}
+use mathlib.Core.List.{List, [], _∷_, reverseAux, List·Memᴰ, List·Memᴰ·cases-cons}
 use mathlib.Core.List.List·Memᴰ.{List·Memᴰ·head, List·Memᴰ·tail}
-use mathlib.Core.Logic.{_≢_, _⊎_, inl, inr}
+use mathlib.Core.Logic.{_↔_, _≢_, _⊎_, inl, inr, ⊎-elim, ⊎-map, Iff·rfl}
 use mathlib.Core.Path.{_≡_, refl, sym, ap, _∙_}
 use Rattle.laws.specs.Cuts.{Converse, cut-all, cut-pairs, cut-links, in-part, from-left, from-right}
 use Rattle.laws.specs.Lists.{All, Pairwise, Head, Linked, all-map, all-zip, all-at, all-of, head-map}
@@ -26,18 +26,18 @@ use Rattle.model.specs.Ranges.{DifferentNames, in-without, pairs-without
 use Rattle.model.specs.Requests.{Formed}
 use Rattle.model.specs.Runs.{Range, State, afterPlace, afterFree, afterRename, begin}
 use Rattle.model.specs.Soundness.{DifferentIds, NotBothFree, Sound}
-use Rattle.model.specs.Track.{Holds, Track, TrackBack, Parts, Before, cut-track, join-track, after-free, after-live, track-at, track-freed, ids-left, ids-right, before-all, after-all}
+use Rattle.model.specs.Track.{Holds, Track, TrackBack, Parts, Before, cut-track, join-track, after-free, after-live, track-at, track-freed, ids-cut, before-all, after-all}
 use Rattle.model.specs.Track.Track.{end, skip, hold}
 
 -- what holds after every call: the ranges of the live chunks, by rising address, keep the page rule, and the ranges
--- that were handed out and not given back are among them
+-- that were handed out and not given back are these and no others
 pub record Holding (G bytes : ℕ) (s : State) : Type 0 where
   pub sound : Sound (s .block)
   pub size : s .block .size ≡ bytes
   pub ranges : List Range
   pub track : Track 0 (s .block .chunks) ranges
   pub ordered : Pairwise (Before G) ranges
-  pub known : (x : Range) → List·Memᴰ x (s .live) → List·Memᴰ x ranges
+  pub known : (x : Range) → List·Memᴰ x (s .live) ↔ List·Memᴰ x ranges
   pub distinct : Pairwise DifferentNames (s .live)
 
 -- ---- a range is handed out
@@ -61,14 +61,39 @@ module _ (G : ℕ) (pg : Pow2 G) (r : Request) (h : Formed Pow2 r) (coarse : G �
   rule-right s (q ∷ m) a k t = λ d.
       finer (omega arith) (stand-apart (r .granularity) (asked r o) (nextOf s (q ∷ m)) .0 t (live, k, d))
 
-known-new : (n : Range) (xs ys live : List Range) → ((x : Range) → List·Memᴰ x live → List·Memᴰ x (reverseAux xs ys))
-    → (x : Range) → List·Memᴰ x (n ∷ live) → List·Memᴰ x (reverseAux xs (n ∷ ys))
-known-new n xs ys live k x (List·Memᴰ·head e) = from-right xs (n ∷ ys) x (List·Memᴰ·head e)
-known-new n xs ys live k x (List·Memᴰ·tail m) = go (in-part xs ys x (k x m))
+-- with n put in before ys there is n, and what was there
+one-more : (xs ys : List Range) (n x : Range)
+    → List·Memᴰ x (reverseAux xs (n ∷ ys)) ↔ ((x ≡ n) ⊎ List·Memᴰ x (reverseAux xs ys))
+one-more xs ys n x = (
+  λ m. from (in-part xs (n ∷ ys) x m),
+  ⊎-elim (λ (e : x ≡ n). from-right xs (n ∷ ys) x (List·Memᴰ·head e))
+      (λ (m : List·Memᴰ x (reverseAux xs ys)).
+      ⊎-elim (from-left xs (n ∷ ys) x)
+      (λ (k : List·Memᴰ x ys). from-right xs (n ∷ ys) x (List·Memᴰ·tail k))
+      (in-part xs ys x m)),
+)
   where
-    go : List·Memᴰ x xs ⊎ List·Memᴰ x ys → List·Memᴰ x (reverseAux xs (n ∷ ys))
-    go (inl a) = from-left xs (n ∷ ys) x a
-    go (inr b) = from-right xs (n ∷ ys) x (List·Memᴰ·tail b)
+    from : List·Memᴰ x xs ⊎ List·Memᴰ x (n ∷ ys) → (x ≡ n) ⊎ List·Memᴰ x (reverseAux xs ys)
+    from (inl k) = inr (from-left xs ys x k)
+    from (inr (List·Memᴰ·head e)) = inl e
+    from (inr (List·Memᴰ·tail k)) = inr (from-right xs ys x k)
+
+known-new : (n : Range) (xs ys live : List Range) (x : Range) → List·Memᴰ x live ↔ List·Memᴰ x (reverseAux xs ys)
+    → List·Memᴰ x (n ∷ live) ↔ List·Memᴰ x (reverseAux xs (n ∷ ys))
+known-new n xs ys live x k =
+    let p = one-more xs ys n x in (
+      λ m. p .1 (⊎-map (λ (e : x ≡ n). e) (k .0) (List·Memᴰ·cases-cons m)),
+      λ m.
+          ⊎-elim (λ (e : x ≡ n). List·Memᴰ·head e)
+          (λ (q : List·Memᴰ x (reverseAux xs ys)). List·Memᴰ·tail (k .1 q)) (p .0 m),
+    )
+
+-- the other chunks have other ids
+other-ids : (b : Block) → Sound b → (z : Spot) → Cut (b .chunks) z
+    → All (λ c. z .chunk .id ≢ c .id) (z .left) × All (λ c. z .chunk .id ≢ c .id) (z .right)
+other-ids b s z cut =
+    let d = cut-pairs DifferentIds (z .left) (z .chunk ∷ z .right) .0 (rw cut (s .distinct)) in
+    (all-map (λ c q k. q .0 (sym k)) (z .left) (d .2), d .1 .0)
 
 module _ (G bytes : ℕ) (pg : Pow2 G) (r : Request) (s : State) (inv : Holding G bytes s) (coarse : G ≤ r .granularity) where
   module _ (z : Spot) (i : PutIn r (s .block) z) where
@@ -120,9 +145,9 @@ module _ (G bytes : ℕ) (pg : Pow2 G) (r : Request) (s : State) (inv : Holding 
         let pairs = cut-pairs (Before G) xs ys .0 (rw (parts .whole) at (inv .ordered)) in
         let before = before-new id xs (parts .left) (pairs .0) in
         let after = after-new id ys t (pairs .1) in
-        let known : (x : Range) → List·Memᴰ x (s .live) → List·Memᴰ x (reverseAux xs ys) =
-        λ x k. rw (parts .whole) at (inv .known x k) in
-        let ids = cut-all (λ x. id ≢ x .id) xs ys .1 (ids-left (λ k. id ≢ k) (parts .left) dl, ids-right (λ k. id ≢ k) t dr) in
+        let known : (x : Range) → List·Memᴰ x (s .live) ↔ List·Memᴰ x (reverseAux xs ys) =
+        λ x. rw (parts .whole) at (inv .known x) in
+        let ids = ids-cut (λ k. id ≢ k) (parts .left) t dl dr in
         record {
           sound = sound;
           size = es ∙ inv .size;
@@ -130,9 +155,9 @@ module _ (G bytes : ℕ) (pg : Pow2 G) (r : Request) (s : State) (inv : Holding 
           track = rw ec (join-track (parts .left) (tracks ys t));
           ordered = cut-pairs (Before G) xs (range id ∷ ys) .1
               (pairs .0, (after, pairs .1), all-zip (λ x p q. (p, q)) xs before (pairs .2));
-          known = known-new (range id) xs ys (s .live) known;
+          known = λ x. known-new (range id) xs ys (s .live) x (known x);
           distinct = (
-            all-of (λ x. id ≢ x .id) (s .live) (λ x k. all-at (λ y. id ≢ y .id) (reverseAux xs ys) ids x (known x k)),
+            all-of (λ x. id ≢ x .id) (s .live) (λ x k. all-at (λ y. id ≢ y .id) (reverseAux xs ys) ids x (known x .0 k)),
             inv .distinct,
           );
         }
@@ -143,9 +168,9 @@ module _ (G bytes : ℕ) (pg : Pow2 G) (r : Request) (s : State) (inv : Holding 
       placed-cases r (s .block) (inv .sound) p e (λ q. Sound (q .block) → Holding G bytes (afterPlace r s (accepted q)))
       (λ z i w.
       let new = wholeOf r (z .chunk) in
-      let d = cut-pairs DifferentIds (z .left) (z .chunk ∷ z .right) .0 (rw (i .cut) (inv .sound .distinct)) in
+      let others = other-ids (s .block) (inv .sound) z (i .cut) in
       hand-out z i (takeWhole r z (s .block)) (z .chunk .id) (new ∷ z .right) refl refl
-      (all-map (λ x q k. q .0 (sym k)) (z .left) (d .2)) (d .1 .0)
+      (others .0) (others .1)
       (λ ys t. hold (i .live) (holds-new z i new refl (sym w)) t))
       (λ z i l n u.
       let b = s .block in
@@ -159,12 +184,6 @@ module _ (G bytes : ℕ) (pg : Pow2 G) (r : Request) (s : State) (inv : Holding 
       (place-keeps (s .block) (inv .sound) r p e)
 
 -- ---- a range is given back
-
-left-over : (x : Range) (xs : List Range) (y : Range) (ys : List Range) → x ≢ y → List·Memᴰ x xs ⊎ List·Memᴰ x (y ∷ ys)
-    → List·Memᴰ x (reverseAux xs ys)
-left-over x xs y ys n (inl a) = from-left xs ys x a
-left-over x xs y ys n (inr (List·Memᴰ·head e)) = absurd (n e)
-left-over x xs y ys n (inr (List·Memᴰ·tail m)) = from-right xs ys x m
 
 track-label : (label s : ℕ) (c : Chunk) (r : List Chunk) (ys : List Range)
     → Track s (c ∷ r) ys → Track s (relabel label c ∷ r) ys
@@ -189,16 +208,26 @@ module _ (G bytes : ℕ) (s : State) (inv : Holding G bytes s) where
       let ys = h .rest in
       let whole : inv .ranges ≡ reverseAux xs (y ∷ ys) = rw (← (h .whole)) (parts .whole) in
       let pairs = cut-pairs (Before G) xs (y ∷ ys) .0 (rw whole at (inv .ordered)) in
+      let others = other-ids (s .block) (inv .sound) z (l .cut) in
+      let ids = ids-cut (λ k. z .chunk .id ≢ k) (parts .left) (h .track) (others .0) (others .1) in
       record {
         sound = sound;
         size = inv .size;
         ranges = reverseAux xs ys;
         track = track-freed z xs ys (parts .left) (h .track);
         ordered = cut-pairs (Before G) xs ys .1 (pairs .0, pairs .1 .1, all-map (λ x p. p .1) xs (pairs .2));
-        known = λ x k.
-            let m = in-without id (s .live) x k in
-            let other : x ≢ y = λ q. m .1 (ap (λ (u : Range). u .id) q ∙ h .holds .id ∙ l .named) in
-            left-over x xs y ys other (in-part xs (y ∷ ys) x (rw whole at (inv .known x (m .0))));
+        known = λ x.
+            let p = one-more xs ys y x in
+            let was : List·Memᴰ x (s .live) ↔ List·Memᴰ x (reverseAux xs (y ∷ ys)) = rw whole at (inv .known x) in
+            let left = in-without id (s .live) x in (
+              λ k.
+                  let m = left .0 k in
+                  ⊎-elim (λ (q : x ≡ y). absurd (m .1 (ap (λ (u : Range). u .id) q ∙ h .holds .id ∙ l .named)))
+                  (λ (q : List·Memᴰ x (reverseAux xs ys)). q) (p .0 (was .0 (m .0))),
+              λ k.
+                  let other = all-at (λ u. z .chunk .id ≢ u .id) (reverseAux xs ys) ids x k in
+                  left .1 (was .1 (p .1 (inr k)), λ q. other (l .named ∙ sym q)),
+            );
         distinct = pairs-without DifferentNames id (s .live) (inv .distinct);
       })
       (release-keeps (s .block) (inv .sound) id after e)
@@ -233,6 +262,6 @@ hold-fresh G size slots a b c d = record {
   ranges = [];
   track = skip refl end;
   ordered = tt;
-  known = λ x m. absurd (List·Memᴰ·not-nil m);
+  known = λ x. Iff·rfl;
   distinct = tt;
 }

@@ -19,6 +19,8 @@ pub mod Totals
 pub mod Merging
 pub mod Slots
 pub mod Heads
+pub mod Steps
+pub mod Renaming
 -- the paper's examples
 pub mod Examples
 -- on the way to these

@@ -2,13 +2,15 @@
 use Prim.Native.Nat.{ℕ, _+_, _-_, _≤_, _<_}
 use native.Mathlib.Decide.{ℕ-discrete}
 use native.Mathlib.Omega.{arith}
-use mathlib.Core.List.{List, [], _∷_, reverseAux}
+use mathlib.Core.List.{List, [], _∷_, reverseAux, List·Memᴰ, List·Memᴰ·not-nil}
+use mathlib.Core.List.List·Memᴰ.{List·Memᴰ·head, List·Memᴰ·tail}
 use mathlib.Core.Logic.{_≢_}
 use mathlib.Core.Path.{_≡_, refl, sym, _∙_}
-use Rattle.laws.specs.Cuts.{Converse}
+use Rattle.laws.specs.Cuts.{Converse, cut-all, from-right}
 use Rattle.laws.specs.Lists.{All, Pairwise, Head, all-map}
 use Rattle.laws.specs.Rounding.{alignDown, down-mono}
 use Rattle.model.specs.Block.{Chunk, Spot, total, first}
+use Rattle.model.specs.Choose.{Cut}
 use Rattle.model.specs.GivingBack.{freed}
 use Rattle.model.specs.Merging.{NearestLive, merged}
 use Rattle.model.specs.Runs.{Range}
@@ -86,6 +88,29 @@ after-live s c r (y ∷ ys) n (hold k h t) = record { range = y; rest = ys; whol
 pub track-at : {s t : ℕ} {cs : List Chunk} {xs : List Range} → s ≡ t → Track s cs xs → Track t cs xs
 track-at e t = rw e at t
 
+-- ---- from a live chunk to its range, and back
+
+-- A live chunk holds one of the ranges.
+pub range-of : (z : Spot) (xs : List Range) → z .chunk .kind ≢ 0
+    → Track 0 (reverseAux (z .left) (z .chunk ∷ z .right)) xs
+    → (x : Range) × List·Memᴰ x xs × Holds (first z) (z .chunk) x
+range-of z xs n t =
+    let parts = cut-track (z .left) (z .chunk ∷ z .right) xs t in
+    let h = after-live (first z) (z .chunk) (z .right) (parts .ys) n (parts .right) in
+    (h .range, among (parts .xs) (parts .whole) (h .whole), h .holds)
+  where
+    among : {x : Range} (l : List Range) {ys rest : List Range} → xs ≡ reverseAux l ys → ys ≡ x ∷ rest → List·Memᴰ x xs
+    among l {ys} e f = rw e (from-right l ys _ (rw f (List·Memᴰ·head refl)))
+
+-- Each range is held by a live chunk.
+pub chunk-of : (l : List Chunk) {r : List Chunk} {xs : List Range} (x : Range) → Track (total l) r xs → List·Memᴰ x xs
+    → (z : Spot) × Cut (reverseAux l r) z × (z .chunk .kind ≢ 0) × Holds (first z) (z .chunk) x
+chunk-of l x end m = absurd (List·Memᴰ·not-nil m)
+chunk-of l x (skip {c = c} z t) m = chunk-of (c ∷ l) x t m
+chunk-of l x (hold {c = c} {cs = cs} n h t) (List·Memᴰ·head e) =
+    (record { left = l; chunk = c; right = cs }, refl, n, rw e h)
+chunk-of l x (hold {c = c} n h t) (List·Memᴰ·tail m) = chunk-of (c ∷ l) x t m
+
 -- ---- giving back
 
 -- Merging free chunks moves no range.
@@ -101,18 +126,22 @@ track-freed z xs ys a t =
 
 -- ---- ids and ends
 
--- What holds of the chunks' ids holds of the ranges', on the right and on the left of a cut.
-pub ids-right : (P : ℕ → Type 0) {s : ℕ} {cs : List Chunk} {xs : List Range}
+ids-right : (P : ℕ → Type 0) {s : ℕ} {cs : List Chunk} {xs : List Range}
     → Track s cs xs → All (λ c. P (c .id)) cs → All (λ x. P (x .id)) xs
 ids-right P end h = tt
 ids-right P (skip z t) h = ids-right P t (h .1)
 ids-right P (hold n k t) h = (rw (k .id) (h .0), ids-right P t (h .1))
 
-pub ids-left : (P : ℕ → Type 0) {cs : List Chunk} {xs : List Range}
+ids-left : (P : ℕ → Type 0) {cs : List Chunk} {xs : List Range}
     → TrackBack cs xs → All (λ c. P (c .id)) cs → All (λ x. P (x .id)) xs
 ids-left P start h = tt
 ids-left P (skipped z t) h = ids-left P t (h .1)
 ids-left P (held n k t) h = (rw (k .id) (h .0), ids-left P t (h .1))
+
+-- What holds of the chunks' ids on both sides of a cut holds of the ranges'.
+pub ids-cut : (P : ℕ → Type 0) {s : ℕ} {l r : List Chunk} {xs ys : List Range} → TrackBack l xs → Track s r ys
+    → All (λ c. P (c .id)) l → All (λ c. P (c .id)) r → All (λ x. P (x .id)) (reverseAux xs ys)
+ids-cut P {xs = xs} {ys = ys} a t h k = cut-all (λ x. P (x .id)) xs ys .1 (ids-left P a h, ids-right P t k)
 
 -- Every range ends no later than the chunks do.
 pub within : {s : ℕ} {cs : List Chunk} {xs : List Range} (n : ℕ)
