@@ -1,52 +1,16 @@
 -- Worked examples of the calls, by computing. Assumes nothing.
 use Prim.Native.Nat.{ℕ, _-_, _^_}
-use mathlib.Core.List.{List, [], _∷_}
+use mathlib.Core.List.{[], _∷_}
 use mathlib.Core.Path.{_≡_, refl}
-use lib.Count.{ones}
-use Rattle.laws.specs.Reply.{Reply, accepted, refused}
-use Rattle.laws.specs.Rounding.{alignDown, alignUp}
-use Rattle.pages.specs.Pages.{isPowerOfTwo, isOnSamePage, hasGranularityConflict}
-use Rattle.pages.specs.Vulkan.{mayStand}
-use Rattle.model.specs.Block.{Block, allocated, fresh}
-use Rattle.model.specs.GivingBack.{release, rename}
-use Rattle.model.specs.Placing.{Placed, raised, offsetAt, takenAt, fitsAt, fault, place}
-use Rattle.model.specs.Runs.{Call, State, step, begin}
-use Rattle.model.specs.Runs.Call.{allocate, free, renameTo}
-
--- what a call answers, and the bytes that are allocated after it
-pub record Line : Type 0 where
-  pub number : ℕ
-  pub offset : ℕ
-  pub id : ℕ
-  pub allocated : ℕ
-
-abbrev line : ℕ → ℕ → ℕ → ℕ → Line
-line number offset id allocated = record { number = number; offset = offset; id = id; allocated = allocated }
-
-abbrev placedLine : Block → Reply Placed → Line
-placedLine b (accepted p) = line 0 (p .offset) (p .id) (allocated (p .block .chunks))
-placedLine b (refused n) = line n 0 0 (allocated (b .chunks))
-
-abbrev changedLine : Block → Reply Block → Line
-changedLine b (accepted c) = line 0 0 0 (allocated (c .chunks))
-changedLine b (refused n) = line n 0 0 (allocated (b .chunks))
-
-abbrev lineOf : Call → Block → Line
-lineOf (allocate r) b = placedLine b (place r b)
-lineOf (free id) b = changedLine b (release id b)
-lineOf (renameTo id label) b = changedLine b (rename id label b)
-
--- the lines of calls, one after the other
-unfoldable pub lines : List Call → State → List Line
-unfolding place fault fitsAt takenAt offsetAt raised release rename isPowerOfTwo mayStand isOnSamePage hasGranularityConflict alignUp alignDown ones
-lines [] s = []
-lines (c ∷ cs) s = lineOf c (s .block) ∷ lines cs (step c s)
+use Rattle.model.specs.Lines.{line, lines, ask, beginAt}
+use Rattle.model.specs.Runs.{Call, begin}
+use Rattle.model.specs.Runs.Call.{free}
 
 abbrev linear : ℕ → ℕ → Call
-linear size alignment = allocate record { size = size; alignment = alignment; kind = 1; granularity = 1024; label = 0 }
+linear size alignment = ask size alignment 1 1024 0
 
 abbrev nonLinear : ℕ → ℕ → Call
-nonLinear size alignment = allocate record { size = size; alignment = alignment; kind = 2; granularity = 1024; label = 0 }
+nonLinear size alignment = ask size alignment 2 1024 0
 
 -- The paper's ten steps on a block of 4096 bytes with 8 slots; the tenth is three calls.
 pub ten-steps :
@@ -91,14 +55,7 @@ pub one-slot : lines (linear 1 1 ∷ linear 4096 1 ∷ []) (begin 4096 1) ≡ li
 unfolding lines
 one-slot = refl
 
--- a fresh block but for its next id
-abbrev lastId : State
-lastId = record {
-  block = record { size = 4096; next = 2 ^ 64 - 1; slots = 8; chunks = fresh 4096 8 .chunks };
-  live = [];
-}
-
 -- With the ids used up a split is refused, and an exact fit is accepted.
-pub no-ids : lines (linear 1 1 ∷ linear 4096 1 ∷ []) lastId ≡ line 8 0 0 0 ∷ line 0 0 1 4096 ∷ []
+pub no-ids : lines (linear 1 1 ∷ linear 4096 1 ∷ []) (beginAt (2 ^ 64 - 1) 4096 8) ≡ line 8 0 0 0 ∷ line 0 0 1 4096 ∷ []
 unfolding lines
 no-ids = refl

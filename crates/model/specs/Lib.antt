@@ -21,8 +21,10 @@ pub mod Slots
 pub mod Heads
 pub mod Steps
 pub mod Renaming
--- the paper's examples
+-- the paper's examples, and runs of the Rust
+pub mod Lines
 pub mod Examples
+pub mod Recorded
 -- on the way to these
 pub mod Sums
 pub mod Fit

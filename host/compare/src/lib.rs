@@ -5,9 +5,11 @@
 pub mod boundary;
 pub mod damage;
 pub mod generator;
+pub mod kept;
 pub mod pages;
 pub mod random;
 pub mod reading;
+pub mod runs;
 pub mod rust;
 pub mod table;
 pub mod tally;
