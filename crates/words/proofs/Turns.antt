@@ -4,9 +4,9 @@ use native.Mathlib.Omega.{arith}
 use native.Mathlib.Nat.{mod-eq-of-lt}
 use mathlib.Core.Bool.{Bool, true, false, not, cond}
 use mathlib.Core.List.{List, [], _∷_}
-use mathlib.Core.Path.{_≡_, refl, sym, ap, _∙_}
-use borrow.Author.Tests.{eqb-true, leb-true, leb-false, le-leb, lt-leb, eq-eqb}
-use lib.Dec.{eqb, leb}
+use mathlib.Core.Path.{_≡_, refl, sym, _∙_}
+use borrow.Author.Tests.{eqb-true, leb-true, le-leb, lt-leb}
+use lib.Dec.{eqb}
 use lib.ListN.{length}
 use Rattle.laws.specs.Every.{pass, fail, more, none, clash}
 use Rattle.laws.specs.Members.{has}
@@ -14,12 +14,11 @@ use Rattle.laws.specs.Tests.{either}
 use Rattle.model.specs.Block.{liveSize}
 use Rattle.words.specs.Layout.{isTable, table-shape, slotCount, Slot, blockSize, nextId, firstSlot, idAt, sizeAt, firstByteAt, kindAt, nextAt}
 use Rattle.words.specs.Words.{chunkAt}
-use Rattle.words.specs.Checks.{linksOk, idOk, kindOk, stepOk, walked, chunksWalked}
+use Rattle.words.specs.Checks.{linksOk, idOk, kindOk, stepOk, chunksWalked}
 use Rattle.words.specs.Buckets.{AllAtMost, AllZero, isNew, entered, idsAt}
 use Rattle.words.specs.Answers.{isSlot, liveOf, walkEnd}
 use Rattle.words.specs.Walking.{Walking, start, unvisited, stop, too-long, go-on, ends, broken}
 use Rattle.words.specs.declared.soundness.Live.the-variants.{Bytes, Broken}
-use Rattle.words.proofs.Ways.{not-ended}
 use Rattle.words.proofs.Chains.{Chains, chains-start, chains-enter, new-id, within-entered}
 
 -- the walk so far, with the slots that it met in the buckets; n is their number
