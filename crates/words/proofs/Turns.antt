@@ -15,7 +15,7 @@ use Rattle.model.specs.Block.{liveSize}
 use Rattle.words.specs.Layout.{isTable, table-shape, slotCount, Slot, blockSize, nextId, firstSlot, idAt, sizeAt, firstByteAt, kindAt, nextAt}
 use Rattle.words.specs.Words.{chunkAt}
 use Rattle.words.specs.Checks.{linksOk, idOk, kindOk, stepOk, chunksWalked}
-use Rattle.words.specs.Buckets.{AllAtMost, AllZero, isNew, entered, idsAt}
+use Rattle.words.specs.Ids.{AllAtMost, AllZero, isNew, entered, idsAt}
 use Rattle.words.specs.Answers.{isSlot, liveOf, walkEnd}
 use Rattle.words.specs.Walking.{Walking, start, unvisited, stop, too-long, go-on, ends, broken}
 use Rattle.words.specs.declared.soundness.Live.the-variants.{Bytes, Broken}

@@ -11,7 +11,7 @@ use Rattle.laws.specs.Every.{pass, more, none, together, clash}
 use Rattle.laws.specs.Tests.{either}
 use Rattle.words.specs.Layout.{isTable, slotCount, blockSize, nextId}
 use Rattle.words.specs.Words.{sound}
-use Rattle.words.specs.Buckets.{AllZero}
+use Rattle.words.specs.Ids.{AllZero}
 use Rattle.words.specs.Checks.{chunksWalked, emptyBelow, checked}
 use Rattle.words.specs.Answers.{headOk}
 use Rattle.words.specs.Walking.{some-walked, none-walked}

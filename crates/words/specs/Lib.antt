@@ -10,7 +10,7 @@ pub mod Written
 pub mod Checked
 -- what the functions of the check answer
 pub mod Checks
-pub mod Buckets
+pub mod Ids
 pub mod Answers
 -- on the way to these
 pub mod Rows

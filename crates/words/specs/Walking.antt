@@ -18,7 +18,7 @@ use Rattle.laws.specs.Tests.{cond-cases, either}
 use Rattle.model.specs.Block.{Chunk, total, allocated, liveSize}
 use Rattle.words.specs.Layout.{slotCount, Slot, blockSize, allocatedWord, firstSlot, sizeAt, firstByteAt, kindAt, nextAt}
 use Rattle.words.specs.Words.{chunkAt, read, chunksOf}
-use Rattle.words.specs.Buckets.{idsAt}
+use Rattle.words.specs.Ids.{idsAt}
 use Rattle.words.specs.Checks.{linksOk, stepOk, walkOk, walked, chunksWalked}
 
 -- ---- one step of reading

@@ -4,7 +4,7 @@ ghost use mathlib.Core.Bool.{true};
 ghost use mathlib.Core.Path.{_≡_};
 ghost use Prim.Native.Nat.{_≤_};
 ghost use Rattle.words.specs.Layout.{isTable, slotCount, Slot};
-ghost use Rattle.words.specs.Buckets.{AllAtMost, onChain, isNew, entered};
+ghost use Rattle.words.specs.Ids.{AllAtMost, onChain, isNew, entered};
 
 // Whether a slot on the chain from this one has the id. No chain is longer than the slots are many.
 fn on_chain(w: &[u64], buckets: &[u16; 1024], start: u64, id: u64) -> bool

@@ -8,7 +8,7 @@ ghost use lib.ListN.{length};
 ghost use Rattle.words.specs.Layout.{isTable, slotCount, Slot, nextId};
 ghost use Rattle.words.specs.Words.{sound};
 ghost use Rattle.words.specs.Checks.{linksOk, idOk, chunksWalked, othersZero, emptyBelow};
-ghost use Rattle.words.specs.Buckets.{AllZero};
+ghost use Rattle.words.specs.Ids.{AllZero};
 ghost use Rattle.words.specs.Answers.{headOk, isSlot, liveOf, walkEnd};
 
 // What a chunk adds to the bytes allocated, or that its kind or label breaks a rule.
