@@ -14,9 +14,9 @@ use Rattle.laws.specs.Tests.{either}
 use Rattle.model.specs.Block.{liveSize}
 use Rattle.words.specs.Layout.{isTable, table-shape, slotCount, Slot, blockSize, nextId, firstSlot, idAt, sizeAt, firstByteAt, kindAt, nextAt}
 use Rattle.words.specs.Words.{chunkAt}
-use Rattle.words.specs.Checks.{linksOk, idOk, kindOk, stepOk, chunksWalked}
+use Rattle.words.specs.Checks.{upTo, linksOk, kindOk, stepOk, chunksWalked}
 use Rattle.words.specs.Ids.{AllAtMost, AllZero, isNew, entered, idsAt}
-use Rattle.words.specs.Answers.{isSlot, liveOf, walkEnd}
+use Rattle.words.specs.Answers.{liveOf, walkEnd}
 use Rattle.words.specs.Walking.{Walking, start, unvisited, stop, too-long, go-on, ends, broken}
 use Rattle.words.specs.declared.soundness.Live.the-variants.{Bytes, Broken}
 use Rattle.words.proofs.Chains.{Chains, chains-start, chains-enter, new-id, within-entered}
@@ -42,8 +42,8 @@ first-turn ws t l z = record {
   word = omega arith;
 }
 
-pub is-slot : (ws : List ℕ) (k s : ℕ) → s ≡ slotCount ws → isSlot k s ≡ true → Slot ws k
-unfolding isSlot
+pub is-slot : (ws : List ℕ) (k s : ℕ) → s ≡ slotCount ws → upTo s k ≡ true → Slot ws k
+unfolding upTo
 is-slot ws k s e h = (leb-true 1 k (pass _ 0 h), rw (← e) (leb-true k s (pass _ 1 h)))
 
 -- what a chunk that keeps the rules adds
@@ -74,7 +74,7 @@ module _ {ws t : List ℕ} {prev k first before sum n : ℕ} (turn : Turn ws t p
   unfolding stepOk
   bad-links s e = sym (broken ws (stop (turn .walking) (s .0) (fail _ 1 e)))
 
-  pub bad-id : Slot ws k → idOk (idAt ws k) (nextId ws - 1) ≡ false → 0 ≡ chunksWalked ws
+  pub bad-id : Slot ws k → upTo (nextId ws - 1) (idAt ws k) ≡ false → 0 ≡ chunksWalked ws
   unfolding stepOk
   bad-id s e = sym (broken ws (stop (turn .walking) (s .0) (fail _ 2 e)))
 
@@ -101,7 +101,7 @@ module _ {ws t : List ℕ} {prev k first before sum n : ℕ} (turn : Turn ws t p
     pub word : sizeAt ws k < 2 ^ 64
     pub slot : Slot ws k
     pub links : linksOk ws prev first k ≡ true
-    pub id : idOk (idAt ws k) (nextId ws - 1) ≡ true
+    pub id : upTo (nextId ws - 1) (idAt ws k) ≡ true
     pub new : isNew ws t k ≡ true
     pub wraps : end ≡ (first + sizeAt ws k) % 2 ^ 64
     pub rises : first < end
@@ -146,8 +146,8 @@ module _ {ws t : List ℕ} {prev k first before sum n : ℕ} (turn : Turn ws t p
     count-fits = omega (arith, turn .count, fits (p .table))
 
   -- The walk has ended: its answer is that of the whole.
-  pub last-turn : (s : ℕ) → s ≡ slotCount ws → isSlot k s ≡ false → walkEnd ws k first sum n ≡ chunksWalked ws
-  unfolding isSlot walkEnd
+  pub last-turn : (s : ℕ) → s ≡ slotCount ws → upTo s k ≡ false → walkEnd ws k first sum n ≡ chunksWalked ws
+  unfolding upTo walkEnd
   last-turn s e h =
       rw (turn .count)
       (ends (turn .walking) (λ p. clash (more _ _ (le-leb 1 k (p .0)) (more _ _ (le-leb k s (rw e (p .1))) none)) h))

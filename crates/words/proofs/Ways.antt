@@ -12,8 +12,8 @@ use lib.Dec.{eqb, leb}
 use lib.ListN.{length}
 use Rattle.laws.specs.Every.{every, pass, fail, more, none, rest, second, together}
 use Rattle.words.specs.Layout.{isTable, slotCount, wordCount, blockSize, allocatedWord, nextId, idAt, sizeAt, firstByteAt, kindAt, labelAt, nextAt, previousAt}
-use Rattle.words.specs.Checks.{linksOk, idOk, kindOk, othersZero, emptyBelow}
-use Rattle.words.specs.Answers.{headOk, isSlot, liveOf, walkEnd}
+use Rattle.words.specs.Checks.{upTo, linksOk, kindOk, othersZero, emptyBelow}
+use Rattle.words.specs.Answers.{headOk, liveOf, walkEnd}
 use Rattle.words.specs.declared.soundness.Live.the-variants.{Bytes, Broken}
 
 -- ---- `is_table`
@@ -31,23 +31,15 @@ unfolding isTable
 by-count ws h l =
     sym (rest _ _ (le-leb 1 (slotCount ws) (omega arith)) ∙ second _ _ (le-leb (slotCount ws) 512 l))
 
--- ---- `is_slot`, `id_ok`
+-- ---- `is_up_to`
 
-pub below : (k slots : ℕ) → k < 1 → false ≡ isSlot k slots
-unfolding isSlot
-below k slots h = sym (fail _ 0 (lt-leb 1 k h))
+pub below : (top x : ℕ) → x < 1 → false ≡ upTo top x
+unfolding upTo
+below top x h = sym (fail _ 0 (lt-leb 1 x h))
 
-pub by-slots : (k slots : ℕ) → 1 ≤ k → leb k slots ≡ isSlot k slots
-unfolding isSlot
-by-slots k slots h = sym (second _ _ (le-leb 1 k h))
-
-pub no-id : (id top : ℕ) → id < 1 → false ≡ idOk id top
-unfolding idOk
-no-id id top h = sym (fail _ 0 (lt-leb 1 id h))
-
-pub by-top : (id top : ℕ) → 1 ≤ id → leb id top ≡ idOk id top
-unfolding idOk
-by-top id top h = sym (second _ _ (le-leb 1 id h))
+pub by-top : (top x : ℕ) → 1 ≤ x → leb x top ≡ upTo top x
+unfolding upTo
+by-top top x h = sym (second _ _ (le-leb 1 x h))
 
 -- ---- `head_ok`, `links_ok`
 

@@ -13,9 +13,6 @@ use Rattle.words.specs.Checks.{kindOk}
 unfoldable pub headOk : List ℕ → Bool
 headOk ws = every (leb 1 (blockSize ws) ∷ leb (blockSize ws) (2 ^ 40) ∷ leb 2 (nextId ws) ∷ [])
 
-unfoldable pub isSlot : ℕ → ℕ → Bool
-isSlot k slots = every (leb 1 k ∷ leb k slots ∷ [])
-
 -- the bytes that a chunk adds to those allocated, where its kind and label keep the rules
 unfoldable pub liveOf : List ℕ → ℕ → ℕ → Live
 liveOf ws before k = cond (kindOk ws before k) (Bytes (cond (eqb (kindAt ws k) 0) 0 (sizeAt ws k))) Broken

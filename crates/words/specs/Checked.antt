@@ -17,7 +17,7 @@ use Rattle.model.specs.Soundness.{DifferentIds, NotBothFree}
 use Rattle.words.specs.Layout.{slotCount, isTable, Slot, blockSize, nextId, firstSlot, idAt, sizeAt, firstByteAt, kindAt, labelAt, nextAt, previousAt, emptyRow}
 use Rattle.words.specs.Words.{chunksOf, blockOf, slotsOf, table, sound, decode}
 use Rattle.words.specs.Soundness.{Used, Follow, Sound}
-use Rattle.words.specs.Checks.{linksOk, idOk, kindOk, stepOk, walkOk, walked, emptyBelow, checked}
+use Rattle.words.specs.Checks.{linksOk, upTo, kindOk, stepOk, walkOk, walked, emptyBelow, checked}
 use Rattle.words.specs.Linked.{Linked, rowAt-none}
 use Rattle.words.specs.Rules.{when}
 use Rattle.words.specs.Written.{Known, known, decode-block, decode-table}
@@ -104,7 +104,7 @@ links-pass : (ws : List ℕ) (prev k first before : ℕ) (seen : List ℕ) (cs :
     All (λ c. c .kind ≡ 0 → c .label ≡ 0) cs → All (λ c. (1 ≤ c .slot) × (c .slot ≤ slotCount ws)) cs →
     All (λ c. has (c .id) seen ≡ false) cs → Pairwise DifferentIds cs →
     Head (λ c. before ≡ 0 → c .kind ≢ 0) cs → Neighbours NotBothFree cs → walkOk ws prev first before seen k cs ≡ true
-unfolding walkOk stepOk linksOk idOk kindOk
+unfolding walkOk stepOk linksOk upTo kindOk
 links-pass ws prev k first before seen [] h i z g l p u d b n = eq-eqb k 0 h
 links-pass ws prev k first before seen (c ∷ cs) h i z g l p u d b n =
     let at-id : idAt ws k ≡ c .id = ap (λ (r : List ℕ). getD r 0 0) (h .1) in

@@ -16,9 +16,9 @@ use Rattle.words.specs.Words.{chunksOf}
 unfoldable pub linksOk : List ℕ → ℕ → ℕ → ℕ → Bool
 linksOk ws prev first k = every (eqb (firstByteAt ws k) first ∷ eqb (previousAt ws k) prev ∷ [])
 
--- top is the highest id that was handed out
-unfoldable pub idOk : ℕ → ℕ → Bool
-idOk id top = every (leb 1 id ∷ leb id top ∷ [])
+-- x is from 1 to top
+unfoldable pub upTo : ℕ → ℕ → Bool
+upTo top x = every (leb 1 x ∷ leb x top ∷ [])
 
 -- the kind is known, and a free chunk is labelled 0 and comes after a live one; before is the kind of the chunk before
 unfoldable pub kindOk : List ℕ → ℕ → ℕ → Bool
@@ -35,7 +35,7 @@ stepOk ws prev first before seen k =
     every
     (leb k (slotCount ws)
     ∷ linksOk ws prev first k
-    ∷ idOk (idAt ws k) (nextId ws - 1)
+    ∷ upTo (nextId ws - 1) (idAt ws k)
     ∷ not (has (idAt ws k) seen)
     ∷ leb 1 (sizeAt ws k)
     ∷ kindOk ws before k

@@ -14,7 +14,7 @@ use Rattle.model.specs.Block.{Chunk, total, allocated}
 use Rattle.words.specs.Layout.{slotCount, Slot, nextId, firstSlot, idAt, sizeAt, kindAt, labelAt, nextAt}
 use Rattle.words.specs.Words.{read, chunksOf, slotsOf}
 use Rattle.words.specs.Soundness.{Walk, Follow, liveBytes, Unlike}
-use Rattle.words.specs.Checks.{linksOk, idOk, kindOk, stepOk, walkOk}
+use Rattle.words.specs.Checks.{linksOk, upTo, kindOk, stepOk, walkOk}
 use Rattle.words.specs.Rules.{when}
 
 -- what is said of one slot
@@ -50,7 +50,7 @@ module _ (ws seen : List ℕ) (k v : ℕ) where
 
 step-good : (ws : List ℕ) (prev first before : ℕ) (seen : List ℕ) (k : ℕ) → 1 ≤ k →
     stepOk ws prev first before seen k ≡ true → Good ws k
-unfolding stepOk idOk kindOk
+unfolding stepOk upTo kindOk
 step-good ws prev first before seen k low e =
     let i : 1 ≤ idAt ws k = leb-true _ _ (pass _ 0 (pass _ 2 e)) in
     let j : idAt ws k ≤ nextId ws - 1 = leb-true _ _ (pass _ 1 (pass _ 2 e)) in

@@ -7,9 +7,9 @@ ghost use Prim.Native.Nat.{_≤_};
 ghost use lib.ListN.{length};
 ghost use Rattle.words.specs.Layout.{isTable, slotCount, Slot, nextId};
 ghost use Rattle.words.specs.Words.{sound};
-ghost use Rattle.words.specs.Checks.{linksOk, idOk, chunksWalked, othersZero, emptyBelow};
+ghost use Rattle.words.specs.Checks.{upTo, linksOk, chunksWalked, othersZero, emptyBelow};
 ghost use Rattle.words.specs.Ids.{AllZero};
-ghost use Rattle.words.specs.Answers.{headOk, isSlot, liveOf, walkEnd};
+ghost use Rattle.words.specs.Answers.{headOk, liveOf, walkEnd};
 
 // What a chunk adds to the bytes allocated, or that its kind or label breaks a rule.
 enum Live {
@@ -17,13 +17,14 @@ enum Live {
     Broken,
 }
 
-fn is_slot(k: u64, s: u64) -> bool
-    ensures { λ r. ⌜ r ≡ isSlot k s ⌝ }
+// Whether x is from 1 to top: k where it is a slot's number, an id where it was handed out.
+fn is_up_to(top: u64, x: u64) -> bool
+    ensures { λ r. ⌜ r ≡ upTo top x ⌝ }
 {
-    if k < 1 {
+    if x < 1 {
         return false;
     }
-    k <= s
+    x <= top
 }
 
 // Whether slot k can follow slot prev, at the address first.
@@ -35,16 +36,6 @@ fn links_ok(w: &[u64], prev: u64, first: u64, k: u64) -> bool
         return false;
     }
     layout::previous(w, k) == prev
-}
-
-// Whether an id was handed out: top is the highest that was.
-fn id_ok(id: u64, top: u64) -> bool
-    ensures { λ r. ⌜ r ≡ idOk id top ⌝ }
-{
-    if id < 1 {
-        return false;
-    }
-    id <= top
 }
 
 // before is the kind of the chunk before, since no two neighbours may be free.
@@ -80,11 +71,11 @@ fn walk(w: &[u64], s: u64, buckets: &mut [u16; 1024]) -> u64
     let mut before: u64 = 1;
     let mut sum: u64 = 0;
     let mut n: u64 = 0;
-    while is_slot(k, s) {
+    while is_up_to(s, k) {
         if !links_ok(w, prev, first, k) {
             return 0;
         }
-        if !id_ok(layout::id(w, k), top) {
+        if !is_up_to(top, layout::id(w, k)) {
             return 0;
         }
         if !ids::enter(w, buckets, k) {

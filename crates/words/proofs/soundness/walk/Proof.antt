@@ -28,12 +28,12 @@ first-slot-requires c κs = c .before .before .pre .0
 loop-holds : tie.Need-loop-holds Inv-loop μ-loop
 loop-holds c = rw (c .first-slot .ensures) (first-turn _ _ (c .before .before .before .pre .3) (c .before .before .before .pre .4))
 
-is-slot-requires : tie.Need-is-slot-requires Inv-loop μ-loop
-is-slot-requires c κs = search needs
+is-up-to-requires : tie.Need-is-up-to-requires Inv-loop μ-loop
+is-up-to-requires c κs = search needs
 
 -- what the test of the loop tells
 slot : (c : tie.Then1 Inv-loop μ-loop) → Slot (now (c .before .before .before .before .before .before .args .w)) (c .before .before .loop .k)
-slot c = is-slot (now (c .before .before .before .before .before .before .args .w)) _ _ (c .before .before .before .before .before .before .pre .1) (sym (c .before .is-slot .ensures) ∙ c .if1 .taken)
+slot c = is-slot (now (c .before .before .before .before .before .before .args .w)) _ _ (c .before .before .before .before .before .before .pre .1) (sym (c .before .is-up-to .ensures) ∙ c .if1 .taken)
 
 links-ok-requires : tie.Need-links-ok-requires Inv-loop μ-loop
 links-ok-requires c κs = slot c
@@ -44,11 +44,11 @@ returns c = bad-links (c .before .before .before .before .loop .inv) (slot (c .b
 id-requires : tie.Need-id-requires Inv-loop μ-loop
 id-requires c κs = slot (c .before .before)
 
-id-ok-requires : tie.Need-id-ok-requires Inv-loop μ-loop
-id-ok-requires c κs = search needs
+is-up-to-requires-2 : tie.Need-is-up-to-requires-2 Inv-loop μ-loop
+is-up-to-requires-2 c κs = search needs
 
 returns-2 : tie.Need-returns-2 Inv-loop μ-loop
-returns-2 c = bad-id (c .before .before .before .before .before .before .before .loop .inv) (slot (c .before .before .before .before .before)) (rw (← (c .before .before .id .ensures), ← (c .before .before .before .before .before .before .before .before .before .next-id .ensures)) (failed (c .before .id-ok .ensures) (c .if3 .taken)))
+returns-2 c = bad-id (c .before .before .before .before .before .before .before .loop .inv) (slot (c .before .before .before .before .before)) (rw (← (c .before .before .id .ensures), ← (c .before .before .before .before .before .before .before .before .before .next-id .ensures)) (failed (c .before .is-up-to2 .ensures) (c .if3 .taken)))
 
 enter-requires : tie.Need-enter-requires Inv-loop μ-loop
 enter-requires c κs = (c .before .before .before .before .before .before .before .before .before .before .before .before .pre .0, c .before .before .before .before .before .before .before .before .loop .inv .within, slot (c .before .before .before .before .before .before))
@@ -84,7 +84,7 @@ all c = record {
   word = omega (arith, c .before .before .before .before .before .before .before .before .before .before .before .before .before .before .before .before .before .before .before .before .shared-slice-known .given (at (c .before .before .before .before .before .before .before .before .before .before .before .before .before .before .before .before .before .loop .k) 1));
   slot = slot (c .before .before .before .before .before .before .before .before .before .before .before .before .before .before .before);
   links = passed (c .before .before .before .before .before .before .before .before .before .before .before .before .before .before .links-ok .ensures) (c .before .before .before .before .before .before .before .before .before .before .before .before .before .if2 .left);
-  id = rw (← (c .before .before .before .before .before .before .before .before .before .before .before .before .id .ensures), ← (c .before .before .before .before .before .before .before .before .before .before .before .before .before .before .before .before .before .before .before .next-id .ensures)) (passed (c .before .before .before .before .before .before .before .before .before .before .before .id-ok .ensures) (c .before .before .before .before .before .before .before .before .before .before .if3 .left));
+  id = rw (← (c .before .before .before .before .before .before .before .before .before .before .before .before .id .ensures), ← (c .before .before .before .before .before .before .before .before .before .before .before .before .before .before .before .before .before .before .before .next-id .ensures)) (passed (c .before .before .before .before .before .before .before .before .before .before .before .is-up-to2 .ensures) (c .before .before .before .before .before .before .before .before .before .before .if3 .left));
   new = passed (c .before .before .before .before .before .before .before .before .enter .ensures .0) (c .before .before .before .before .before .before .before .if4 .left);
   wraps = rw (← (c .before .before .before .before .before .before .size .ensures)) (c .before .before .before .before .before .wrapping-add-u64 .ensures);
   rises = omega (arith, c .before .before .before .before .if5 .left);
@@ -113,7 +113,7 @@ walk-end-requires : tie.Need-walk-end-requires Inv-loop μ-loop
 walk-end-requires c κs = c .before .before .before .before .before .before .pre .0
 
 returns-6 : tie.Need-returns-6 Inv-loop μ-loop
-returns-6 c = c .walk-end .ensures ∙ last-turn (c .before .before .before .loop .inv) _ (c .before .before .before .before .before .before .before .pre .1) (sym (c .before .before .is-slot .ensures) ∙ c .before .if1 .left)
+returns-6 c = c .walk-end .ensures ∙ last-turn (c .before .before .before .loop .inv) _ (c .before .before .before .before .before .before .before .pre .1) (sym (c .before .before .is-up-to .ensures) ∙ c .before .if1 .left)
 
 pub walk-spec : {M : Type 1} → statement M
 walk-spec =
@@ -125,11 +125,11 @@ walk-spec =
     sub-top
     first-slot-requires
     loop-holds
-    is-slot-requires
+    is-up-to-requires
     links-ok-requires
     returns
     id-requires
-    id-ok-requires
+    is-up-to-requires-2
     returns-2
     enter-requires
     returns-3
