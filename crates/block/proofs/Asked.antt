@@ -6,7 +6,7 @@ use mathlib.Core.Path.{_≡_, refl, ap, _∙_}
 use lib.Dec.{eqb}
 use Rattle.laws.specs.Reply.{Reply, accepted, refused}
 use Rattle.model.specs.Block.{Block, allocated}
-use Rattle.words.specs.Layout.{isTable, allocatedWord}
+use Rattle.table.specs.Layout.{isTable, allocatedWord}
 use Rattle.words.specs.Words.{Read, notATable, unsound, table, blockOf, sound, decode}
 use Rattle.words.specs.Written.{known, decode-none, decode-unsound, decode-block}
 use Rattle.block.specs.Calls.{onTable}

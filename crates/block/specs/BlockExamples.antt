@@ -8,16 +8,17 @@ use Rattle.laws.specs.Every.{every}
 use Rattle.laws.specs.Members.{has, distinct, same}
 use Rattle.laws.specs.Reply.{accepted, refused}
 use Rattle.model.specs.Block.{Chunk, Block}
-use Rattle.words.specs.Layout.{isTable, at}
+use Rattle.table.specs.Layout.{isTable, at}
+use Rattle.words.specs.Checks.{upTo}
 use Rattle.words.specs.Words.{rowAt, rows, encode, read, chunksOf, blockOf, chunkOk, allOk, noneFree, rules, sound, table, decode}
-use Rattle.block.specs.Creation.{isBlockSize, newOn}
+use Rattle.block.specs.Creation.{newOn}
 use Rattle.block.specs.Questions.{allocatedOn, isEmptyOn}
 
 -- ---- new
 
 -- so many words of old content; what the examples compute with is opened here, once
 old : ℕ → List ℕ
-unfolding newOn isBlockSize allocatedOn isEmptyOn isTable decode sound rules noneFree allOk chunkOk blockOf chunksOf read encode rows rowAt every has distinct same
+unfolding newOn upTo allocatedOn isEmptyOn isTable decode sound rules noneFree allOk chunkOk blockOf chunksOf read encode rows rowAt every has distinct same
 old n = replicate n 9
 
 -- A table of one slot and one of two.

@@ -1,12 +1,11 @@
 -- Creation: 1, then 13, and no look at old content. Assumes nothing.
 use Prim.Native.Nat.{ℕ, _^_}
 use mathlib.Core.Bool.{Bool, cond}
-use mathlib.Core.List.{List, [], _∷_}
-use lib.Dec.{leb}
-use Rattle.laws.specs.Every.{every}
+use mathlib.Core.List.{List}
 use Rattle.laws.specs.Reply.{Reply, accepted, refused}
 use Rattle.model.specs.Block.{fresh}
-use Rattle.words.specs.Layout.{isTable, slotCount}
+use Rattle.table.specs.Layout.{isTable, slotCount}
+use Rattle.words.specs.Checks.{upTo}
 use Rattle.words.specs.Words.{encode}
 use Rattle.block.specs.declared.creation.Created.{Created}
 use Rattle.block.specs.declared.creation.Created.the-variants.{Done, Refused}
@@ -17,8 +16,8 @@ replyCreated Done = accepted tt
 replyCreated (Refused n) = refused n
 
 -- a free-list block has 1 to 2^40 bytes
-unfoldable pub isBlockSize : ℕ → Bool
-isBlockSize size = every (leb 1 size ∷ leb size (2 ^ 40) ∷ [])
+abbrev pub isBlockSize : ℕ → Bool
+isBlockSize size = upTo (2 ^ 40) size
 
 -- the call: the answer and every word after it; a refusal keeps the words
 unfoldable pub newOn : List ℕ → ℕ → Reply (Unit {0}) × List ℕ

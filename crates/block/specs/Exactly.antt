@@ -11,8 +11,9 @@ use Rattle.laws.specs.Every.{pass, two, clash}
 use Rattle.laws.specs.Reply.{Reply, accepted, refused, number, not-refused}
 use Rattle.laws.specs.Tests.{either, cond-cases}
 use Rattle.model.specs.Block.{Block, allocated, fresh}
-use Rattle.words.specs.Layout.{isTable, slotCount}
+use Rattle.table.specs.Layout.{isTable, slotCount}
 use Rattle.words.specs.Words.{encode, blockOf, Read, notATable, unsound, table, decode}
+use Rattle.words.specs.Checks.{upTo}
 use Rattle.words.specs.Soundness.{Sound, liveBytes}
 use Rattle.words.specs.Written.{known}
 use Rattle.words.specs.Checked.{sound-exactly}
@@ -30,11 +31,11 @@ use Rattle.block.specs.declared.questions.IsEmpty.the-variants as is-emp
 -- ---- new: when it is refused
 
 size-in : (size : ℕ) → isBlockSize size ≡ true → (1 ≤ size) × (size ≤ 2 ^ 40)
-unfolding isBlockSize
+unfolding upTo
 size-in size e = (leb-true _ _ (pass _ 0 e), leb-true _ _ (pass _ 1 e))
 
 size-out : (size : ℕ) → isBlockSize size ≡ false → (size ≡ 0) ⊎ (2 ^ 40 < size)
-unfolding isBlockSize
+unfolding upTo
 size-out size e =
     either _ size 1 (λ l. inl (omega arith))
     (λ l. either _ (2 ^ 40) size inr (λ h. absurd (clash (two _ _ (le-leb 1 size l) (le-leb size (2 ^ 40) h)) e)))

@@ -9,7 +9,7 @@ use lib.ListN.{length}
 use Rattle.laws.specs.Every.{cases, clash}
 use Rattle.laws.specs.Reply.{Reply, refused, number}
 use Rattle.model.specs.Block.{Block}
-use Rattle.words.specs.Layout.{slotCount, isTable, table-shape}
+use Rattle.table.specs.Layout.{slotCount, isTable, table-shape}
 use Rattle.words.specs.Words.{blockOf, sound, decode}
 use Rattle.words.specs.Soundness.{Sound}
 use Rattle.words.specs.Written.{decode-none, decode-unsound, decode-block, not-a-table}

@@ -10,7 +10,7 @@ use Rattle.laws.specs.Reply.{accepted, not-refused}
 use Rattle.model.specs.Block.{Block, fresh}
 use Rattle.model.specs.Kept.{fresh-sound}
 use Rattle.model.specs.Soundness.{Sound as SoundBlock}
-use Rattle.words.specs.Layout.{slotCount, table-shape, blockSize, allocatedWord, nextId, firstSlot, row, emptyRow}
+use Rattle.table.specs.Layout.{slotCount, table-shape, blockSize, allocatedWord, nextId, firstSlot, row, emptyRow}
 use Rattle.words.specs.Words.{encode, rowAt, table, decode}
 use Rattle.words.specs.Soundness.{Sound}
 use Rattle.words.specs.Rows.{encode-length, encode-slots, encode-head, encode-row}

@@ -1,9 +1,10 @@
 // A new block: a fresh table over lent words, whatever they were.
+use table::layout;
 use words::fresh;
-use words::layout;
+use words::soundness;
 ghost use mathlib.Core.Path.{_≡_};
 ghost use Rattle.laws.specs.Reply.{number};
-ghost use Rattle.block.specs.Creation.{isBlockSize, newOn, replyCreated};
+ghost use Rattle.block.specs.Creation.{newOn, replyCreated};
 
 pub enum Created {
     Done,
@@ -22,23 +23,13 @@ impl Created {
     }
 }
 
-// 1 to 2^40 bytes.
-fn is_block_size(size: u64) -> bool
-    ensures { λ r. ⌜ r ≡ isBlockSize size ⌝ }
-{
-    if size < 1 {
-        return false;
-    }
-    size <= 1099511627776
-}
-
 pub fn new(words: &mut [u64], size: u64) -> Created
     ensures { λ r. ⌜ (replyCreated r, now (words .exit)) ≡ newOn (now (words .entry)) size ⌝ }
 {
     if !layout::is_table(words) {
         return Created::Refused(1);
     }
-    if !is_block_size(size) {
+    if !soundness::is_up_to(1099511627776, size) {
         return Created::Refused(13);
     }
     fresh::write_fresh(words, size);

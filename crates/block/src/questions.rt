@@ -1,5 +1,5 @@
 // What a block is asked without changing it: the bytes allocated, and whether there are any.
-use words::layout;
+use table::layout;
 use words::soundness;
 ghost use mathlib.Core.Path.{_≡_};
 ghost use Rattle.laws.specs.Reply.{number};

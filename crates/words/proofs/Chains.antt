@@ -13,7 +13,7 @@ use lib.ListN.{length, getD, set, length-set}
 use lib.Seq.{getD-set-same, getD-set-other, set-out}
 use Rattle.laws.specs.Members.{has, has-head, has-same, has-other, not-head, eq-or-not}
 use Rattle.laws.specs.Tests.{cond-cases, either}
-use Rattle.words.specs.Layout.{idAt}
+use Rattle.table.specs.Layout.{idAt}
 use Rattle.words.specs.Ids.{AllAtMost, AllZero, headOf, linkOf, chain, idsAt, onChain, isNew, entered}
 
 -- ---- `on_chain`

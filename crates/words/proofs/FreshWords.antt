@@ -7,7 +7,7 @@ use borrow.Author.Tests.{ne-eqb}
 use lib.ListN.{length, drop, set, replicate}
 use lib.Seq.{drop-length}
 use Rattle.model.specs.Block.{Chunk, fresh}
-use Rattle.words.specs.Layout.{wordCount, at}
+use Rattle.table.specs.Layout.{wordCount, at}
 use Rattle.words.specs.Words.{encode, rows, rowAt}
 
 -- Filled to the end, every word is 0.

@@ -12,7 +12,7 @@ use Rattle.laws.specs.Every.{pass, fail, more, none, clash}
 use Rattle.laws.specs.Members.{has}
 use Rattle.laws.specs.Tests.{either}
 use Rattle.model.specs.Block.{liveSize}
-use Rattle.words.specs.Layout.{isTable, table-shape, slotCount, Slot, blockSize, nextId, firstSlot, idAt, sizeAt, firstByteAt, kindAt, nextAt}
+use Rattle.table.specs.Layout.{isTable, table-shape, slotCount, Slot, blockSize, nextId, firstSlot, idAt, sizeAt, firstByteAt, kindAt, nextAt}
 use Rattle.words.specs.Words.{chunkAt}
 use Rattle.words.specs.Checks.{upTo, linksOk, kindOk, stepOk, chunksWalked}
 use Rattle.words.specs.Ids.{AllAtMost, AllZero, isNew, entered, idsAt}

@@ -9,7 +9,7 @@ use borrow.Author.Tests.{leb-true}
 use lib.ListN.{replicate, getD-replicate, length-replicate, List·getD-eq-default}
 use Rattle.laws.specs.Every.{pass, more, none, together, clash}
 use Rattle.laws.specs.Tests.{either}
-use Rattle.words.specs.Layout.{isTable, slotCount, blockSize, nextId}
+use Rattle.table.specs.Layout.{isTable, slotCount, blockSize, nextId}
 use Rattle.words.specs.Words.{sound}
 use Rattle.words.specs.Ids.{AllZero}
 use Rattle.words.specs.Checks.{chunksWalked, emptyBelow, checked}

@@ -9,27 +9,11 @@ use mathlib.Core.Path.{_≡_, refl, sym, ap, _∙_}
 use borrow.Author.Tests.{eqb-true, lt-leb, le-leb, eq-eqb, ne-eqb}
 use lib.Bits.{bitOr, or-add-and, and-le-l, and-le-r}
 use lib.Dec.{eqb, leb}
-use lib.ListN.{length}
 use Rattle.laws.specs.Every.{every, pass, fail, more, none, rest, second, together}
-use Rattle.words.specs.Layout.{isTable, slotCount, wordCount, blockSize, allocatedWord, nextId, idAt, sizeAt, firstByteAt, kindAt, labelAt, nextAt, previousAt}
+use Rattle.table.specs.Layout.{blockSize, allocatedWord, nextId, idAt, sizeAt, firstByteAt, kindAt, labelAt, nextAt, previousAt}
 use Rattle.words.specs.Checks.{upTo, linksOk, kindOk, othersZero, emptyBelow}
 use Rattle.words.specs.Answers.{headOk, liveOf, walkEnd}
 use Rattle.words.specs.declared.soundness.Live.the-variants.{Bytes, Broken}
-
--- ---- `is_table`
-
-pub too-few-words : (ws : List ℕ) → length ws < 11 → false ≡ isTable ws
-unfolding isTable
-too-few-words ws h = sym (fail _ 0 (lt-leb 1 (slotCount ws) (omega arith)))
-
-pub too-many-slots : (ws : List ℕ) → 512 < slotCount ws → false ≡ isTable ws
-unfolding isTable
-too-many-slots ws h = sym (fail _ 1 (lt-leb (slotCount ws) 512 h))
-
-pub by-count : (ws : List ℕ) → 11 ≤ length ws → slotCount ws ≤ 512 → eqb (length ws) (wordCount (slotCount ws)) ≡ isTable ws
-unfolding isTable
-by-count ws h l =
-    sym (rest _ _ (le-leb 1 (slotCount ws) (omega arith)) ∙ second _ _ (le-leb (slotCount ws) 512 l))
 
 -- ---- `is_up_to`
 

@@ -6,7 +6,7 @@ use lib.Dec.{eqb, leb}
 use Rattle.laws.specs.Every.{every}
 use Rattle.words.specs.declared.soundness.Live.{Live}
 use Rattle.words.specs.declared.soundness.Live.the-variants.{Bytes, Broken}
-use Rattle.words.specs.Layout.{blockSize, allocatedWord, nextId, sizeAt, kindAt}
+use Rattle.table.specs.Layout.{blockSize, allocatedWord, nextId, sizeAt, kindAt}
 use Rattle.words.specs.Checks.{kindOk}
 
 -- block size 1 to 2^40, next id at least 2

@@ -14,7 +14,7 @@ use Rattle.laws.specs.Lists.{All, Pairwise, Head, Linked as Neighbours, head-of
 use Rattle.laws.specs.Members.{has, has-other, same, same-eq, same-refl}
 use Rattle.model.specs.Block.{Chunk, Block, total}
 use Rattle.model.specs.Soundness.{DifferentIds, NotBothFree}
-use Rattle.words.specs.Layout.{slotCount, isTable, Slot, blockSize, nextId, firstSlot, idAt, sizeAt, firstByteAt, kindAt, labelAt, nextAt, previousAt, emptyRow}
+use Rattle.table.specs.Layout.{slotCount, isTable, Slot, blockSize, nextId, firstSlot, idAt, sizeAt, firstByteAt, kindAt, labelAt, nextAt, previousAt, emptyRow}
 use Rattle.words.specs.Words.{chunksOf, blockOf, slotsOf, table, sound, decode}
 use Rattle.words.specs.Soundness.{Used, Follow, Sound}
 use Rattle.words.specs.Checks.{linksOk, upTo, kindOk, stepOk, walkOk, walked, emptyBelow, checked}

@@ -7,7 +7,7 @@ use lib.ListN.{length}
 use Rattle.laws.specs.Every.{every}
 use Rattle.laws.specs.Members.{has}
 use Rattle.model.specs.Block.{Chunk, total, allocated}
-use Rattle.words.specs.Layout.{slotCount, blockSize, allocatedWord, nextId, firstSlot, idAt, sizeAt, firstByteAt, kindAt, labelAt, nextAt, previousAt}
+use Rattle.table.specs.Layout.{slotCount, blockSize, allocatedWord, nextId, firstSlot, idAt, sizeAt, firstByteAt, kindAt, labelAt, nextAt, previousAt}
 use Rattle.words.specs.Words.{chunksOf}
 
 -- ---- one step of the walk, at slot k

@@ -11,7 +11,7 @@ use lib.ListN.{getD}
 use Rattle.laws.specs.Counting.{count, count-pass, count-fail}
 use Rattle.laws.specs.Every.{every, pass, more, none, two, cases}
 use Rattle.laws.specs.Members.{same, same-eq, same-refl, not-same}
-use Rattle.words.specs.Layout.{idAt, sizeAt, firstByteAt, kindAt, labelAt, nextAt, previousAt, row, emptyRow}
+use Rattle.table.specs.Layout.{idAt, sizeAt, firstByteAt, kindAt, labelAt, nextAt, previousAt, row, emptyRow}
 use Rattle.words.specs.Checks.{othersZero, emptyBelow}
 
 -- slot k is seven zeros

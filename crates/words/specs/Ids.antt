@@ -5,7 +5,7 @@ use mathlib.Core.List.{List, [], _∷_, map}
 use mathlib.Core.Path.{_≡_}
 use lib.ListN.{getD, set}
 use Rattle.laws.specs.Members.{has}
-use Rattle.words.specs.Layout.{idAt}
+use Rattle.table.specs.Layout.{idAt}
 
 -- every head and every link is 0 or a slot
 abbrev pub AllAtMost : ℕ → List ℕ → Type 0

@@ -13,7 +13,7 @@ use Rattle.laws.specs.Mapped.{all-mapped, pairs-mapped, linked-mapped}
 use Rattle.laws.specs.Members.{has, same, same-eq, same-refl}
 use Rattle.model.specs.Block.{Chunk, Block, total, allocated}
 use Rattle.model.specs.Soundness.{Sound as SoundBlock}
-use Rattle.words.specs.Layout.{slotCount, isTable, table-shape, blockSize, nextId, firstSlot, sizeAt, kindAt, nextAt, row, emptyRow}
+use Rattle.table.specs.Layout.{slotCount, isTable, table-shape, blockSize, nextId, firstSlot, sizeAt, kindAt, nextAt, row, emptyRow}
 use Rattle.words.specs.Words.{rowOf, rowAt, chunkAt, chunksOf, blockOf, slotsOf, sound}
 use Rattle.words.specs.Soundness.{Used, Walk, Follow, liveBytes, Sound}
 use Rattle.words.specs.Rows.{written}

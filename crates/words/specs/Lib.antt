@@ -1,7 +1,6 @@
--- The chunk table as words: where they stand, what they say, and when they are sound.
+-- The chunk table as words: what they say, and when they are sound.
 
 -- the definitions
-pub mod Layout
 pub mod Words
 pub mod Soundness
 -- what is written is read back; words are read as a block exactly when they are sound

@@ -11,7 +11,7 @@ use Rattle.laws.specs.Every.{pass, clash}
 use Rattle.laws.specs.Lists.{All}
 use Rattle.laws.specs.Members.{has, distinct, has-none, has-head, has-tail, has-other, not-head, eq-or-not}
 use Rattle.model.specs.Block.{Chunk}
-use Rattle.words.specs.Layout.{nextAt, row, emptyRow}
+use Rattle.table.specs.Layout.{nextAt, row, emptyRow}
 use Rattle.words.specs.Words.{slotOf, rowOf, rowAt, chunkAt, read, slotsOf}
 
 -- ---- the row that a list of chunks says

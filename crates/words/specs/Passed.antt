@@ -11,7 +11,7 @@ use Rattle.laws.specs.Every.{pass}
 use Rattle.laws.specs.Lists.{All, Pairwise, Head, Linked, all-map}
 use Rattle.laws.specs.Members.{has, has-other, not-head}
 use Rattle.model.specs.Block.{Chunk, total, allocated}
-use Rattle.words.specs.Layout.{slotCount, Slot, nextId, firstSlot, idAt, sizeAt, kindAt, labelAt, nextAt}
+use Rattle.table.specs.Layout.{slotCount, Slot, nextId, firstSlot, idAt, sizeAt, kindAt, labelAt, nextAt}
 use Rattle.words.specs.Words.{read, chunksOf, slotsOf}
 use Rattle.words.specs.Soundness.{Walk, Follow, liveBytes, Unlike}
 use Rattle.words.specs.Checks.{linksOk, upTo, kindOk, stepOk, walkOk}

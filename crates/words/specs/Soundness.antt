@@ -6,7 +6,7 @@ use mathlib.Core.Logic.{_≢_}
 use mathlib.Core.Path.{_≡_}
 use lib.Dec.{eqb}
 use Rattle.laws.specs.Lists.{All, Pairwise, Linked}
-use Rattle.words.specs.Layout.{Slot, blockSize, allocatedWord, nextId, firstSlot, idAt, sizeAt, firstByteAt, kindAt, labelAt, nextAt, previousAt, row, emptyRow}
+use Rattle.table.specs.Layout.{Slot, blockSize, allocatedWord, nextId, firstSlot, idAt, sizeAt, firstByteAt, kindAt, labelAt, nextAt, previousAt, row, emptyRow}
 
 -- a slot that is not seven zeros
 abbrev pub Used : List ℕ → ℕ → Type 0

@@ -6,7 +6,7 @@ use lib.Dec.{eqb, leb, ltb}
 use Rattle.laws.specs.Every.{every}
 use Rattle.laws.specs.Members.{distinct, same}
 use Rattle.model.specs.Block.{Chunk, Block, total, allocated, isFree}
-use Rattle.words.specs.Layout.{slotCount, isTable, blockSize, nextId, firstSlot, idAt, sizeAt, kindAt, labelAt, nextAt, emptyRow}
+use Rattle.table.specs.Layout.{slotCount, isTable, blockSize, nextId, firstSlot, idAt, sizeAt, kindAt, labelAt, nextAt, emptyRow}
 
 -- ---- writing
 

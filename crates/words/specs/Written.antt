@@ -14,7 +14,7 @@ use Rattle.laws.specs.Mapped.{all-mapped, pairs-mapped}
 use Rattle.laws.specs.Members.{distinct, same-eq, same-refl}
 use Rattle.model.specs.Block.{Block, allocated}
 use Rattle.model.specs.Soundness.{Sound}
-use Rattle.words.specs.Layout.{wordCount, slotCount, isTable, table-shape, allocatedWord, firstSlot, row}
+use Rattle.table.specs.Layout.{wordCount, slotCount, isTable, table-shape, allocatedWord, firstSlot, row}
 use Rattle.words.specs.Words.{slotOf, rowAt, encode, chunksOf, blockOf, slotsOf, rules, notATable, unsound, table, sound, readAs, decode}
 use Rattle.words.specs.Rows.{encode-length, encode-slots, encode-head, encode-row}
 use Rattle.words.specs.Linked.{Linked, rowAt-linked, linked-read}

@@ -1,10 +1,10 @@
 // A fresh table: next id 2 and one free chunk, id 1, in slot 1; every other slot is empty.
-use crate::layout;
+use table::layout;
 ghost use mathlib.Core.Bool.{true};
 ghost use mathlib.Core.Path.{_≡_};
 ghost use lib.ListN.{length, replicate};
 ghost use Rattle.model.specs.Block.{fresh};
-ghost use Rattle.words.specs.Layout.{isTable, slotCount};
+ghost use Rattle.table.specs.Layout.{isTable, slotCount};
 ghost use Rattle.words.specs.Words.{encode};
 
 fn clear(w: &mut [u64])

@@ -1,9 +1,9 @@
 // Ids by buckets: 512 heads, then for each slot a link to the slot before it in its bucket. 0 ends a chain.
-use crate::layout;
+use table::layout;
 ghost use mathlib.Core.Bool.{true};
 ghost use mathlib.Core.Path.{_≡_};
 ghost use Prim.Native.Nat.{_≤_};
-ghost use Rattle.words.specs.Layout.{isTable, slotCount, Slot};
+ghost use Rattle.table.specs.Layout.{isTable, slotCount, Slot};
 ghost use Rattle.words.specs.Ids.{AllAtMost, onChain, isNew, entered};
 
 // Whether a slot on the chain from this one has the id. No chain is longer than the slots are many.

@@ -1,11 +1,11 @@
 // Whether a table is sound: one walk along "next", every other slot seven zeros, ids distinct.
 use crate::ids;
-use crate::layout;
+use table::layout;
 ghost use mathlib.Core.Bool.{true};
 ghost use mathlib.Core.Path.{_≡_};
 ghost use Prim.Native.Nat.{_≤_};
 ghost use lib.ListN.{length};
-ghost use Rattle.words.specs.Layout.{isTable, slotCount, Slot, nextId};
+ghost use Rattle.table.specs.Layout.{isTable, slotCount, Slot, nextId};
 ghost use Rattle.words.specs.Words.{sound};
 ghost use Rattle.words.specs.Checks.{upTo, linksOk, chunksWalked, othersZero, emptyBelow};
 ghost use Rattle.words.specs.Ids.{AllZero};
@@ -17,8 +17,8 @@ enum Live {
     Broken,
 }
 
-// Whether x is from 1 to top: k where it is a slot's number, an id where it was handed out.
-fn is_up_to(top: u64, x: u64) -> bool
+// Whether x is from 1 to top: k where it is a slot's number, an id where it was handed out, a block's size.
+pub fn is_up_to(top: u64, x: u64) -> bool
     ensures { λ r. ⌜ r ≡ upTo top x ⌝ }
 {
     if x < 1 {

@@ -1,7 +1,7 @@
 -- `words::fresh::write_fresh` meets its contract. Assumes nothing.
 use native.Mathlib.Omega.{arith}
 use lib.ListN.{length-set, length-replicate}
-use Rattle.words.specs.Layout.{table-shape}
+use Rattle.table.specs.Layout.{table-shape}
 use Rattle.words.proofs.FreshWords.{fresh-words}
 use borrow.Author.Needs.{needs}
 use Rattle.words.proofs.fresh.write_fresh.Statement.{statement}

@@ -2,7 +2,7 @@
 use Prim.Native.Nat.{_%_}
 use native.Mathlib.Omega.{arith}
 use mathlib.Core.Bool.{false≢true}
-use Rattle.words.specs.Layout.{table-shape}
+use Rattle.table.specs.Layout.{table-shape}
 use Rattle.words.proofs.Chains.{met, not-met, stored}
 use borrow.Author.Needs.{needs}
 use Rattle.words.proofs.ids.enter.Statement.{statement}

@@ -2,7 +2,7 @@
 use Prim.Native.Nat.{_+_, _≤_}
 use native.Mathlib.Omega.{arith}
 use mathlib.Core.Path.{_≡_, refl, sym, _∙_}
-use Rattle.words.specs.Layout.{slotCount, table-shape}
+use Rattle.table.specs.Layout.{slotCount, table-shape}
 use Rattle.words.specs.Ids.{onChain}
 use Rattle.words.proofs.Chains.{chain-ends, chain-spent, chain-here, chain-on}
 use Rattle.words.proofs.ids.on_chain.Statement.{statement}

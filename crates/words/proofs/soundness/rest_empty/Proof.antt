@@ -3,7 +3,7 @@ use Rattle.laws.specs.Tests.{failed, passed}
 use Prim.Native.Nat.{_≤_}
 use native.Mathlib.Omega.{arith}
 use mathlib.Core.Path.{_≡_, refl, sym, _∙_}
-use Rattle.words.specs.Layout.{slotCount}
+use Rattle.table.specs.Layout.{slotCount}
 use Rattle.words.specs.Checks.{emptyBelow}
 use Rattle.words.proofs.Ways.{found-all, none-left, skip-used, not-empty, one-found}
 use Rattle.words.proofs.soundness.rest_empty.Statement.{statement}

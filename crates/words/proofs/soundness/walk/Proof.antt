@@ -4,7 +4,7 @@ use native.Mathlib.Omega.{arith}
 use mathlib.Core.Path.{sym, _∙_}
 use borrow.Author.Needs.{needs}
 use denote.Ref.{now}
-use Rattle.words.specs.Layout.{at, Slot}
+use Rattle.table.specs.Layout.{at, Slot}
 use Rattle.laws.specs.Tests.{failed, passed}
 use Rattle.words.proofs.Turns.{Turn, first-turn, is-slot, bad-links, bad-id, known-id, bad-size, bad-kind, Passed, exactly, next-turn, live-fits, count-fits, last-turn}
 use Rattle.words.proofs.soundness.walk.Statement.{statement}

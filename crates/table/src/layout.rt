@@ -3,7 +3,7 @@ ghost use mathlib.Core.Bool.{true};
 ghost use mathlib.Core.Path.{_≡_};
 ghost use Prim.Native.Nat.{_≤_};
 ghost use lib.ListN.{length, set};
-ghost use Rattle.words.specs.Layout.{isTable, slotCount, Slot, at, blockSize, allocatedWord, nextId, firstSlot, idAt, sizeAt, firstByteAt, kindAt, labelAt, nextAt, previousAt};
+ghost use Rattle.table.specs.Layout.{isTable, slotCount, Slot, at, blockSize, allocatedWord, nextId, firstSlot, idAt, sizeAt, firstByteAt, kindAt, labelAt, nextAt, previousAt};
 
 // Whether the word count is 4 + 7s, s from 1 to 512.
 pub fn is_table(w: &[u64]) -> bool
@@ -110,6 +110,13 @@ pub fn set_block_size(w: &mut [u64], v: u64)
     w[0] = v;
 }
 
+pub fn set_allocated(w: &mut [u64], v: u64)
+    requires { ⌜ 4 ≤ length (now w) ⌝ }
+    ensures { λ _. ⌜ now (w .exit) ≡ set (now (w .entry)) 1 v ⌝ }
+{
+    w[1] = v;
+}
+
 pub fn set_next_id(w: &mut [u64], v: u64)
     requires { ⌜ 4 ≤ length (now w) ⌝ }
     ensures { λ _. ⌜ now (w .exit) ≡ set (now (w .entry)) 2 v ⌝ }
@@ -136,4 +143,39 @@ pub fn set_size(w: &mut [u64], k: u64, v: u64)
     ensures { λ _. ⌜ now (w .exit) ≡ set (now (w .entry)) (at k 1) v ⌝ }
 {
     w[4 + 7 * (k as usize - 1) + 1] = v;
+}
+
+pub fn set_first_byte(w: &mut [u64], k: u64, v: u64)
+    requires { ⌜ Slot (now w) k ⌝ }
+    ensures { λ _. ⌜ now (w .exit) ≡ set (now (w .entry)) (at k 2) v ⌝ }
+{
+    w[4 + 7 * (k as usize - 1) + 2] = v;
+}
+
+pub fn set_kind(w: &mut [u64], k: u64, v: u64)
+    requires { ⌜ Slot (now w) k ⌝ }
+    ensures { λ _. ⌜ now (w .exit) ≡ set (now (w .entry)) (at k 3) v ⌝ }
+{
+    w[4 + 7 * (k as usize - 1) + 3] = v;
+}
+
+pub fn set_label(w: &mut [u64], k: u64, v: u64)
+    requires { ⌜ Slot (now w) k ⌝ }
+    ensures { λ _. ⌜ now (w .exit) ≡ set (now (w .entry)) (at k 4) v ⌝ }
+{
+    w[4 + 7 * (k as usize - 1) + 4] = v;
+}
+
+pub fn set_next(w: &mut [u64], k: u64, v: u64)
+    requires { ⌜ Slot (now w) k ⌝ }
+    ensures { λ _. ⌜ now (w .exit) ≡ set (now (w .entry)) (at k 5) v ⌝ }
+{
+    w[4 + 7 * (k as usize - 1) + 5] = v;
+}
+
+pub fn set_previous(w: &mut [u64], k: u64, v: u64)
+    requires { ⌜ Slot (now w) k ⌝ }
+    ensures { λ _. ⌜ now (w .exit) ≡ set (now (w .entry)) (at k 6) v ⌝ }
+{
+    w[4 + 7 * (k as usize - 1) + 6] = v;
 }

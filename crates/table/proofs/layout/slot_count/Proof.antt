@@ -1,9 +1,9 @@
--- `words::layout::slot_count` meets its contract. Assumes nothing.
+-- `table::layout::slot_count` meets its contract. Assumes nothing.
 use native.Mathlib.Omega.{arith}
-use Rattle.words.specs.Layout.{table-shape}
+use Rattle.table.specs.Layout.{table-shape}
 use borrow.Author.Needs.{needs}
-use Rattle.words.proofs.layout.slot_count.Statement.{statement}
-use Rattle.words.proofs.layout.slot_count.Tie as tie
+use Rattle.table.proofs.layout.slot_count.Statement.{statement}
+use Rattle.table.proofs.layout.slot_count.Tie as tie
 
 sub-result : tie.Need-sub-result
 sub-result c = omega (arith, table-shape _ (c .pre))

@@ -1,9 +1,9 @@
--- `words::layout::block_size` meets its contract. Assumes nothing.
+-- `table::layout::block_size` meets its contract. Assumes nothing.
 use native.Mathlib.Omega.{arith}
-use Rattle.words.specs.Layout.{table-shape}
+use Rattle.table.specs.Layout.{table-shape}
 use borrow.Author.Needs.{needs}
-use Rattle.words.proofs.layout.block_size.Statement.{statement}
-use Rattle.words.proofs.layout.block_size.Tie as tie
+use Rattle.table.proofs.layout.block_size.Statement.{statement}
+use Rattle.table.proofs.layout.block_size.Tie as tie
 
 shared-slice-read-result : tie.Need-shared-slice-read-result
 shared-slice-read-result c = omega (arith, table-shape _ (c .before .pre))

@@ -1,8 +1,8 @@
--- `words::layout::set_id` meets its contract. Assumes nothing.
+-- `table::layout::set_id` meets its contract. Assumes nothing.
 use native.Mathlib.Nat.{add-zero}
 use borrow.Author.Needs.{needs}
-use Rattle.words.proofs.layout.set_id.Statement.{statement}
-use Rattle.words.proofs.layout.set_id.Tie as tie
+use Rattle.table.proofs.layout.set_id.Statement.{statement}
+use Rattle.table.proofs.layout.set_id.Tie as tie
 
 sub-w : tie.Need-sub-w
 sub-w c = search needs

@@ -1,8 +1,8 @@
--- `words::layout::id` meets its contract. Assumes nothing.
+-- `table::layout::id` meets its contract. Assumes nothing.
 use native.Mathlib.Nat.{add-zero}
 use borrow.Author.Needs.{needs}
-use Rattle.words.proofs.layout.id.Statement.{statement}
-use Rattle.words.proofs.layout.id.Tie as tie
+use Rattle.table.proofs.layout.id.Statement.{statement}
+use Rattle.table.proofs.layout.id.Tie as tie
 
 sub-result : tie.Need-sub-result
 sub-result c = search needs

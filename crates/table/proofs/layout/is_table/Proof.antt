@@ -1,9 +1,9 @@
--- `words::layout::is_table` meets its contract. Assumes nothing.
+-- `table::layout::is_table` meets its contract. Assumes nothing.
 use native.Mathlib.Omega.{arith}
-use Rattle.words.proofs.Ways.{too-few-words, too-many-slots, by-count}
+use Rattle.table.proofs.Ways.{too-few-words, too-many-slots, by-count}
 use borrow.Author.Needs.{needs}
-use Rattle.words.proofs.layout.is_table.Statement.{statement}
-use Rattle.words.proofs.layout.is_table.Tie as tie
+use Rattle.table.proofs.layout.is_table.Statement.{statement}
+use Rattle.table.proofs.layout.is_table.Tie as tie
 
 returns : tie.Need-returns
 returns c = too-few-words _ (omega arith)

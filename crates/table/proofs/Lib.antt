@@ -1,0 +1,2 @@
+-- The laws that the proofs of `table` share. Assumes nothing.
+pub mod Ways

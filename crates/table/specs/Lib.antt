@@ -1,0 +1,2 @@
+-- The chunk table as words: where they stand.
+pub mod Layout
