@@ -4,6 +4,8 @@
 pub mod Calls
 pub mod Creation
 pub mod Questions
+pub mod Placing
+pub mod GivingBack
 -- when each call is refused, what it answers otherwise, and what a new block is
 pub mod Exactly
 pub mod NewBlock
