@@ -18,7 +18,8 @@ use Rattle.words.specs.Words.{rowOf, rowAt, chunkAt, chunksOf, blockOf, 
 use Rattle.words.specs.Soundness.{Used, Walk, Follow, liveBytes, Sound}
 use Rattle.words.specs.Rows.{written}
 use Rattle.words.specs.Linked.{Linked, linked-slot, linked-rowAt, rowAt-none, linked-read}
-use Rattle.words.specs.Written.{chunks-fit, sound-words}
+use Rattle.words.specs.Laid.{sound-laid, chunks-fit}
+use Rattle.words.specs.Written.{sound-words}
 
 -- the chunks in the slots of a walk
 abbrev chunksAt : List ℕ → List ℕ → List Chunk
@@ -85,7 +86,7 @@ module _ (ws : List ℕ) (t : isTable ws ≡ true) (h : Sound ws) where
   unfolding chunksOf
   chunks-read =
       linked-read ws (slotCount ws) 0 (firstSlot ws) 0 (chunksAt ws (h .walk)) (each _ (λ k u. u .0 .0))
-      (chunks-fit walkedBlock block-sound) links
+      (chunks-fit walkedBlock (sound-laid walkedBlock block-sound)) links
 
   block-read : blockOf ws ≡ walkedBlock
   unfolding blockOf

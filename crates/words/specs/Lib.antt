@@ -13,8 +13,10 @@ pub mod Ids
 pub mod Answers
 -- on the way to these
 pub mod Rows
+pub mod Laid
 pub mod Linked
 pub mod Keeping
 pub mod Walking
 pub mod EmptySlots
 pub mod Passed
+pub mod Spots

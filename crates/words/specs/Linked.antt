@@ -16,12 +16,12 @@ use Rattle.words.specs.Words.{slotOf, rowOf, rowAt, chunkAt, read, slots
 
 -- ---- the row that a list of chunks says
 
-rowAt-here : (prev first : ℕ) (c : Chunk) (cs : List Chunk) (k : ℕ) → c .slot ≡ k
+pub rowAt-here : (prev first : ℕ) (c : Chunk) (cs : List Chunk) (k : ℕ) → c .slot ≡ k
     → rowAt prev first (c ∷ cs) k ≡ rowOf prev first (slotOf cs) c
 unfolding rowAt
 rowAt-here prev first c cs k e = rw (eq-eqb (c .slot) k e)
 
-rowAt-there : (prev first : ℕ) (c : Chunk) (cs : List Chunk) (k : ℕ) → c .slot ≢ k
+pub rowAt-there : (prev first : ℕ) (c : Chunk) (cs : List Chunk) (k : ℕ) → c .slot ≢ k
     → rowAt prev first (c ∷ cs) k ≡ rowAt (c .slot) (first + c .size) cs k
 unfolding rowAt
 rowAt-there prev first c cs k f = rw (ne-eqb (c .slot) k f)

@@ -6,59 +6,19 @@ use mathlib.Core.List.{List}
 use mathlib.Core.Logic.{_≢_, _↔_, ⊎-elim}
 use mathlib.Core.Path.{_≡_, refl, sym, ap, _∙_}
 use borrow.Author.Tests.{eq-eqb, le-leb}
-use lib.ListN.{length, length-map}
-use Rattle.laws.specs.Counting.{Within, distinct-pairs, distinct-fits, has-element}
+use lib.ListN.{length}
 use Rattle.laws.specs.Every.{pass, none, more, two, cases, clash}
-use Rattle.laws.specs.Lists.{all-map, all-at}
-use Rattle.laws.specs.Mapped.{all-mapped, pairs-mapped}
-use Rattle.laws.specs.Members.{distinct, same-eq, same-refl}
+use Rattle.laws.specs.Members.{same-eq, same-refl}
 use Rattle.model.specs.Block.{Block, allocated}
 use Rattle.model.specs.Soundness.{Sound}
 use Rattle.table.specs.Layout.{wordCount, slotCount, isTable, table-shape, allocatedWord, firstSlot, row}
-use Rattle.words.specs.Words.{slotOf, rowAt, encode, chunksOf, blockOf, slotsOf, rules, notATable, unsound, table, sound, readAs, decode}
-use Rattle.words.specs.Rows.{encode-length, encode-slots, encode-head, encode-row}
-use Rattle.words.specs.Linked.{Linked, rowAt-linked, linked-read}
+use Rattle.words.specs.Words.{rowAt, encode, chunksOf, blockOf, rules, notATable, unsound, table, sound, readAs, decode}
+use Rattle.words.specs.Rows.{encode-length, encode-head, encode-row}
+use Rattle.words.specs.Linked.{Linked}
+use Rattle.words.specs.Laid.{sound-laid, linked, block-back}
 use Rattle.words.specs.Rules.{rules-sound}
 
--- ---- the slots of a sound block
-
--- no two chunks of a sound block are in one slot
-slots-distinct : (b : Block) → Sound b → distinct (slotsOf (b .chunks)) ≡ true
-slots-distinct b h = distinct-pairs (slotsOf (b .chunks)) .1 (pairs-mapped _ _ (b .chunks) .1 (h .apart))
-
--- each is in a slot of the table
-slots-within : (b : Block) → Sound b → Within (b .slots) (slotsOf (b .chunks))
-slots-within b h = all-mapped _ _ (b .chunks) .1 (h .places)
-
--- A sound block has at most as many chunks as slots.
-pub chunks-fit : (b : Block) → Sound b → length (b .chunks) ≤ b .slots
-chunks-fit b h =
-    let f = distinct-fits (slotsOf (b .chunks)) (b .slots) (slots-distinct b h) (slots-within b h) in
-    simp length-map at f
-
 -- ---- a block that is written
-
--- words with the slots of a sound block are linked as its chunks
-linked : (ws : List ℕ) (b : Block) → Sound b
-    → ((k : ℕ) → 1 ≤ k → k ≤ b .slots → row ws k ≡ rowAt 0 0 (b .chunks) k)
-    → Linked ws 0 (slotOf (b .chunks)) 0 (b .chunks)
-linked ws b h r =
-    rowAt-linked ws 0 0 (b .chunks) (slots-distinct b h)
-    (λ k t.
-    let p = all-at _ (slotsOf (b .chunks)) (slots-within b h) k (has-element k _ .0 t) in
-    r k (p .0) (p .1))
-
-chunks-back : (b : Block) → Sound b → chunksOf (encode b) ≡ b .chunks
-unfolding chunksOf
-chunks-back b h =
-    let l : length (b .chunks) ≤ slotCount (encode b) = rw (encode-slots b) (chunks-fit b h) in
-    linked-read (encode b) (slotCount (encode b)) 0 (firstSlot (encode b)) 0 (b .chunks)
-    (all-map (λ c p. p .0) (b .chunks) (h .places)) l (rw (encode-head b .3) (linked (encode b) b h (encode-row b)))
-
--- the block that is read from what a sound block is written as is that block
-block-back : (b : Block) → Sound b → blockOf (encode b) ≡ b
-unfolding blockOf encode
-block-back b h = λ i. record { size = b .size; next = b .next; slots = encode-slots b i; chunks = chunks-back b h i }
 
 -- Words are sound if a sound block is read from them and is written as them.
 pub sound-words : (ws : List ℕ) (b : Block) → blockOf ws ≡ b → Sound b → encode b ≡ ws → sound ws ≡ true
@@ -99,7 +59,7 @@ known ws e =
       block = h;
       allocated = ap allocatedWord (sym w) ∙ encode-head (blockOf ws) .1;
       rows = r;
-      links = rw (ap firstSlot (sym w) ∙ encode-head (blockOf ws) .3) (linked ws (blockOf ws) h r);
+      links = rw (ap firstSlot (sym w) ∙ encode-head (blockOf ws) .3) (linked ws (blockOf ws) (sound-laid (blockOf ws) h) r);
     }
 
 -- ---- what words are read as
@@ -121,7 +81,7 @@ decode-block ws t s = rw (t, s)
 -- A sound block is read back from what it is written as.
 pub decode-encode : (b : Block) → Sound b → decode (encode b) ≡ table b
 decode-encode b h =
-    let e = block-back b h in
+    let e = block-back b (sound-laid b h) in
     decode-block (encode b) (table-length (encode b) (b .slots) (h .slots .0) (h .slots .1) (encode-length b))
     (sound-words (encode b) b e h refl)
     ∙ ap table e

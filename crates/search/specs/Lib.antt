@@ -1,0 +1,2 @@
+-- What is looked up in a sound table.
+pub mod Requests

@@ -1,0 +1,2 @@
+// What is looked up in a sound table: whether a request is well formed, where it fits, and which slot is meant.
+pub mod request;
