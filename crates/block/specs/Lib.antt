@@ -6,10 +6,17 @@ pub mod Creation
 pub mod Questions
 pub mod Placing
 pub mod GivingBack
+pub mod Runs
 -- when each call is refused, what it answers otherwise, and what a new block is
 pub mod Exactly
 pub mod NewBlock
+-- demand 3's second half on words, and that runs on words are the block's
+pub mod RunsApart
+pub mod RunsWritten
+pub mod RunsLines
 -- worked examples
 pub mod BlockExamples
+pub mod TenSteps
+pub mod CallExamples
 -- on the way to these
 pub mod Looked
