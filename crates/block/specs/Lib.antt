@@ -10,6 +10,11 @@ pub mod Runs
 -- when each call is refused, what it answers otherwise, and what a new block is
 pub mod Exactly
 pub mod NewBlock
+-- the same of placing, giving back and renaming; demand 3 on words; what a call keeps; that it has one outcome
+pub mod Refused
+pub mod RoomOnWords
+pub mod KeptOnWords
+pub mod Determined
 -- demand 3's second half on words, and that runs on words are the block's
 pub mod RunsApart
 pub mod RunsWritten
@@ -20,3 +25,5 @@ pub mod TenSteps
 pub mod CallExamples
 -- on the way to these
 pub mod Looked
+pub mod Outcomes
+pub mod SlotsOnWords

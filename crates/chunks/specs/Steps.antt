@@ -1,5 +1,5 @@
 -- What each step makes of a block. z is the chunk that it is about, with its neighbours. Assumes nothing.
-use Prim.Native.Nat.{ℕ, suc, _-_}
+use Prim.Native.Nat.{ℕ, suc}
 use mathlib.Core.List.{List, _∷_, reverseAux}
 use Rattle.model.specs.Block.{Chunk, Block, Spot}
 use Rattle.model.specs.Effects.{replaced}

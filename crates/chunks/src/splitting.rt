@@ -9,13 +9,15 @@ ghost use Rattle.table.specs.Layout.{Slot, slotCount, allocatedWord, nextId, si
 ghost use Rattle.words.specs.Words.{encode, blockOf};
 ghost use Rattle.chunks.specs.Premises.{FreeIn, NoneIn};
 ghost use Rattle.chunks.specs.Steps.{splitInTwo};
+ghost use Rattle.chunks.specs.Stores.{shortened};
 
-// The chunk in slot k begins n bytes later, after slot new.
-fn shorten(w: &mut [u64], k: u64, n: u64, new: u64) {
-    let first = layout::first_byte(w, k) + n;
-    layout::set_first_byte(w, k, first);
-    let size = layout::size(w, k) - n;
+// The chunk in slot k begins at first, after slot new, and has so many bytes.
+fn shorten(w: &mut [u64], k: u64, first: u64, size: u64, new: u64)
+    requires { ⌜ Slot (now w) k ⌝ }
+    ensures { λ _. ⌜ now (w .exit) ≡ shortened (now (w .entry)) k first size new ⌝ }
+{
     layout::set_size(w, k, size);
+    layout::set_first_byte(w, k, first);
     layout::set_previous(w, k, new);
 }
 
@@ -24,13 +26,12 @@ pub fn split_off(w: &mut [u64], k: u64, new: u64, n: u64, kind: u64, label: u64)
     requires { ⌜ Slot (now w) k × Slot (now w) new × (previousAt (now w) k ≤ slotCount (now w)) × (n ≤ sizeAt (now w) k) × (firstByteAt (now w) k + n < 2 ^ 64) × (allocatedWord (now w) + n < 2 ^ 64) × (nextId (now w) + 1 < 2 ^ 64) ⌝ }
     ensures { λ _. ⌜ ((z : Spot) → FreeIn (now (w .entry)) k z → NoneIn (now (w .entry)) new → kind ≢ 0 → now (w .exit) ≡ encode (splitInTwo new n kind label z (blockOf (now (w .entry))))) ⌝ }
 {
-    let id = layout::next_id(w);
     let first = layout::first_byte(w, k);
+    let size = layout::size(w, k) - n;
     let previous = layout::previous(w, k);
+    let id = layout::spend_id(w);
+    layout::raise_allocated(w, n);
     layout::set_slot(w, new, id, n, first, kind, label, k, previous);
     links::set_next_of(w, previous, new);
-    shorten(w, k, n, new);
-    let allocated = layout::allocated(w) + n;
-    layout::set_allocated(w, allocated);
-    layout::set_next_id(w, id + 1);
+    shorten(w, k, first + n, size, new);
 }

@@ -13,8 +13,8 @@ pub fn take_whole(w: &mut [u64], k: u64, kind: u64, label: u64)
     requires { ⌜ Slot (now w) k × (allocatedWord (now w) + sizeAt (now w) k < 2 ^ 64) ⌝ }
     ensures { λ _. ⌜ ((z : Spot) → FreeIn (now (w .entry)) k z → kind ≢ 0 → now (w .exit) ≡ encode (takenWhole kind label z (blockOf (now (w .entry))))) ⌝ }
 {
-    let allocated = layout::allocated(w) + layout::size(w, k);
-    layout::set_allocated(w, allocated);
+    let size = layout::size(w, k);
+    layout::raise_allocated(w, size);
     layout::set_kind(w, k, kind);
     layout::set_label(w, k, label);
 }
@@ -23,8 +23,8 @@ pub fn set_free(w: &mut [u64], k: u64)
     requires { ⌜ Slot (now w) k × (sizeAt (now w) k ≤ allocatedWord (now w)) ⌝ }
     ensures { λ _. ⌜ ((z : Spot) → LiveIn (now (w .entry)) k z → now (w .exit) ≡ encode (setFree z (blockOf (now (w .entry))))) ⌝ }
 {
-    let allocated = layout::allocated(w) - layout::size(w, k);
-    layout::set_allocated(w, allocated);
+    let size = layout::size(w, k);
+    layout::lower_allocated(w, size);
     layout::set_kind(w, k, 0);
     layout::set_label(w, k, 0);
 }

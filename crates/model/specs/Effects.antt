@@ -43,7 +43,8 @@ pub record PutIn (r : Request) (b : Block) (z : Spot) : Type 0 where
   pub padded : first z + taken r z ≡ offsetIn r z + r .size
   pub some : 1 ≤ taken r z
 
-live-kind : (k : ℕ) → (k ≡ 1) ⊎ (k ≡ 2) → (k ≢ 0) × (k ≤ 2)
+-- A kind of 1 or 2 is a live one.
+pub live-kind : (k : ℕ) → (k ≡ 1) ⊎ (k ≡ 2) → (k ≢ 0) × (k ≤ 2)
 live-kind k (inl e) = (λ z. omega arith, omega arith)
 live-kind k (inr e) = (λ z. omega arith, omega arith)
 

@@ -3,16 +3,18 @@ use Prim.Native.Nat.{ℕ, _+_, _≤_}
 use native.Mathlib.Omega.{arith}
 use mathlib.Core.List.{_∷_}
 use mathlib.Core.Logic.{_≢_}
-use mathlib.Core.Path.{_≡_, refl}
+use mathlib.Core.Path.{_≡_, refl, sym, ap, _∙_}
 use borrow.Author.Tests.{eq-eqb, ne-eqb}
 use Rattle.laws.specs.Reply.{accepted}
+use Rattle.laws.specs.Tests.{either}
 use Rattle.model.specs.Block.{Chunk, Block, Spot, total, liveSize, allocated, first}
 use Rattle.model.specs.Choose.{Cut}
 use Rattle.model.specs.Effects.{LiveIn, chunksOf, replaced, placed-cases, released, renamed}
 use Rattle.model.specs.GivingBack.{grown, freed, relabel, release, rename}
 use Rattle.model.specs.Handed.{Live}
 use Rattle.model.specs.Merging.{merged}
-use Rattle.model.specs.Placing.{Request, Placed, taken, newSlot, wholeOf, pieceOf, remainderOf, takeWhole, splitOff, place}
+use Rattle.model.specs.Placing.{Request, Placed, takenAt, taken, newSlot, wholeOf, pieceOf, remainderOf, takeWhole, splitOff, place}
+use Rattle.model.specs.Room.{Taken}
 use Rattle.model.specs.Soundness.{Sound}
 use Rattle.model.specs.Sums.{total-cut, allocated-cut}
 
@@ -110,6 +112,22 @@ place-allocated r b s p e =
       live = record { id = refl; kind = refl; label = refl; above = i .fits .above; end = omega (arith, i .padded) };
       allocated = rw (i .cut) at (split-allocated z r b (i .free) (i .live));
     })
+
+-- Counted from the first byte of the chunk that the request is put into, these are padding plus size.
+pub place-rises : (r : Request) (b : Block) (p : Placed) (t : Taken r b p) → r .kind ≢ 0
+    → allocated (p .block .chunks) ≡ allocated (b .chunks) + taken r (t .spot)
+unfolding takenAt
+place-rises r b p t live =
+    let z = t .spot in
+    let m = t .best .room in
+    let fits : taken r z ≤ z .chunk .size = omega (arith, t .offset, m .above, m .below) in
+    either _ (taken r z) (z .chunk .size)
+    (λ l.
+    ap (λ (x : Block). allocated (x .chunks)) (t .part l .1) ∙ (rw (m .cut) at (split-allocated z r b (m .free) live)))
+    (λ l.
+    let q : taken r z ≡ z .chunk .size = omega arith in
+    ap (λ (x : Block). allocated (x .chunks)) (t .whole q .1) ∙ (rw (m .cut) at (whole-allocated z r b (m .free) live))
+    ∙ ap (λ (n : ℕ). allocated (b .chunks) + n) (sym q))
 
 -- the live chunk with the id is given back, and `allocated` fell by its bytes
 pub record Fall (id : ℕ) (b after : Block) : Type 0 where

@@ -5,7 +5,7 @@ use mathlib.Core.List.{List, [], _∷_}
 use mathlib.Core.Path.{_≡_}
 use borrow.Author.Tests.{leb-true, eqb-true}
 use lib.Dec.{eqb, leb}
-use lib.ListN.{length, getD}
+use lib.ListN.{length, getD, set}
 use Rattle.laws.specs.Every.{every, pass}
 
 -- the words of a table of so many slots, and the slots of so many words
@@ -78,3 +78,14 @@ row ws k = idAt ws k ∷ sizeAt ws k ∷ firstByteAt ws k ∷ kindAt ws k ∷ la
 
 abbrev pub emptyRow : List ℕ
 emptyRow = 0 ∷ 0 ∷ 0 ∷ 0 ∷ 0 ∷ 0 ∷ 0 ∷ []
+
+-- ---- the words of slot k written over, its front first
+
+unfoldable pub setFront : List ℕ → ℕ → ℕ → ℕ → ℕ → ℕ → List ℕ
+setFront ws k id size first kind = set (set (set (set ws (at k 0) id) (at k 1) size) (at k 2) first) (at k 3) kind
+
+unfoldable pub setBack : List ℕ → ℕ → ℕ → ℕ → ℕ → List ℕ
+setBack ws k label next previous = set (set (set ws (at k 4) label) (at k 5) next) (at k 6) previous
+
+unfoldable pub setRow : List ℕ → ℕ → ℕ → ℕ → ℕ → ℕ → ℕ → ℕ → ℕ → List ℕ
+setRow ws k id size first kind label next previous = setBack (setFront ws k id size first kind) k label next previous
