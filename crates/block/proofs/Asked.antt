@@ -1,29 +1,28 @@
 -- What each look at the words answers to a question. Assumes nothing.
 use Prim.Native.Nat.{ℕ}
-use mathlib.Core.Bool.{Bool, true, false}
+use mathlib.Core.Bool.{Bool, true}
 use mathlib.Core.List.{List}
-use mathlib.Core.Path.{_≡_, refl, ap, _∙_}
+use mathlib.Core.Logic.{_≢_}
+use mathlib.Core.Path.{_≡_, refl, sym, ap, _∙_}
 use lib.Dec.{eqb}
 use Rattle.laws.specs.Reply.{Reply, accepted, refused}
 use Rattle.model.specs.Block.{Block, allocated}
 use Rattle.table.specs.Layout.{isTable, allocatedWord}
 use Rattle.words.specs.Words.{Read, notATable, unsound, table, blockOf, sound, decode}
-use Rattle.words.specs.Written.{known, decode-none, decode-unsound, decode-block}
+use Rattle.words.specs.Written.{known}
 use Rattle.block.specs.Calls.{onTable}
+use Rattle.block.specs.Look.{tableFault}
 use Rattle.block.specs.Questions.{allocatedOn, isEmptyOn}
+use Rattle.block.proofs.Fault.{unfit, on-block}
 
 module _ (ws : List ℕ) where
-  pub no-table : isTable ws ≡ false → refused 1 ≡ allocatedOn ws
+  pub not-looked : tableFault ws ≢ 0 → refused (tableFault ws) ≡ allocatedOn ws
   unfolding allocatedOn
-  no-table t = rw (decode-none ws t)
-
-  pub not-sound : isTable ws ≡ true → sound ws ≡ false → refused 2 ≡ allocatedOn ws
-  unfolding allocatedOn
-  not-sound t s = rw (decode-unsound ws t s)
+  not-looked n = sym (unfit ws _ n)
 
   pub the-total : isTable ws ≡ true → sound ws ≡ true → accepted (allocatedWord ws) ≡ allocatedOn ws
   unfolding allocatedOn blockOf
-  the-total t s = rw (decode-block ws t s) (ap accepted (known ws s .allocated))
+  the-total t s = rw (on-block ws (λ b. accepted (allocated (b .chunks))) t s) (ap accepted (known ws s .allocated))
 
   -- ---- whether the total is 0
 

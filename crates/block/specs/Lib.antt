@@ -2,6 +2,7 @@
 
 -- the definitions
 pub mod Calls
+pub mod Look
 pub mod Creation
 pub mod Questions
 pub mod Placing

@@ -1,6 +1,6 @@
 // What a block is asked without changing it: the bytes allocated, and whether there are any.
+use crate::look;
 use table::layout;
-use words::soundness;
 ghost use mathlib.Core.Path.{_≡_};
 ghost use Rattle.laws.specs.Reply.{number};
 ghost use Rattle.block.specs.Questions.{allocatedOn, isEmptyOn, replyTotal, replyIsEmpty};
@@ -42,11 +42,9 @@ impl IsEmpty {
 pub fn allocated(words: &[u64]) -> Total
     ensures { λ r. ⌜ replyTotal r ≡ allocatedOn (now (words .entry)) ⌝ }
 {
-    if !layout::is_table(words) {
-        return Total::Refused(1);
-    }
-    if !soundness::is_sound(words) {
-        return Total::Refused(2);
+    let unfit = look::table_fault(words);
+    if unfit != 0 {
+        return Total::Refused(unfit);
     }
     Total::Bytes(layout::allocated(words))
 }

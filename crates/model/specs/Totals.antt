@@ -45,10 +45,11 @@ module _ (z : Spot) where
 
 -- ---- the bytes of the live chunks move by those of one
 
-live-size : (c : Chunk) → c .kind ≢ 0 → liveSize c ≡ c .size
+-- A live chunk counts, and a free one does not.
+pub live-size : (c : Chunk) → c .kind ≢ 0 → liveSize c ≡ c .size
 live-size c n = rw (ne-eqb (c .kind) 0 n)
 
-free-size : (c : Chunk) → c .kind ≡ 0 → liveSize c ≡ 0
+pub free-size : (c : Chunk) → c .kind ≡ 0 → liveSize c ≡ 0
 free-size c e = rw (eq-eqb (c .kind) 0 e)
 
 module _ (z : Spot) where

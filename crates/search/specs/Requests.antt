@@ -1,5 +1,12 @@
--- A request as the model takes it. Assumes nothing.
-use Rattle.model.specs.Placing.{Request}
+-- A request as the model takes it, and what is known of one without a fault. Assumes nothing.
+use Prim.Native.Nat.{ℕ, _≤_}
+use mathlib.Core.Bool.{true}
+use mathlib.Core.Path.{_≡_}
+use borrow.Author.Tests.{eq-eqb}
+use Rattle.laws.specs.Powers.{Pow2, ones-of-pow2}
+use Rattle.pages.specs.Pages.{isPowerOfTwo}
+use Rattle.model.specs.Placing.{Request, fault}
+use Rattle.model.specs.Requests.{no-fault}
 use Rattle.search.specs.declared.request.Request as declared
 
 abbrev pub requestOf : declared.Request → Request
@@ -10,3 +17,14 @@ requestOf r = record {
   granularity = r .granularity;
   label = r .label;
 }
+
+power : {x : ℕ} → Pow2 x → isPowerOfTwo x ≡ true
+unfolding isPowerOfTwo
+power {x} p = eq-eqb _ _ (ones-of-pow2 x p)
+
+-- Of a request without a fault the tests of its parts pass.
+pub fault-free : (r : Request) → fault r ≡ 0
+    → (1 ≤ r .size) × (isPowerOfTwo (r .alignment) ≡ true) × (isPowerOfTwo (r .granularity) ≡ true)
+fault-free r e =
+    let h = no-fault r .0 e in
+    (h .size, power (h .alignment), power (h .granularity))

@@ -1,0 +1,8 @@
+-- The laws that the proofs of `search` share. Assumes nothing.
+pub mod Faults
+pub mod Scanning
+pub mod LiveWays
+pub mod PageWays
+pub mod Offsets
+pub mod BetterWays
+pub mod Searching

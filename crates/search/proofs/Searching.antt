@@ -1,0 +1,255 @@
+-- The search for the best chunk as a loop: what was chosen so far, and the best of what is ahead, come to the choice.
+-- Assumes nothing.
+use Prim.Native.Nat.{ℕ, _-_, _^_, _≤_, _<_}
+use native.Mathlib.Omega.{arith}
+use mathlib.Core.Bool.{Bool, true, false, cond}
+use mathlib.Core.List.{List, [], _∷_, reverseAux}
+use mathlib.Core.Logic.{_≢_, ⊎-elim}
+use mathlib.Core.Option.{Option, none, some}
+use mathlib.Core.Path.{_≡_, refl, sym, ap, subst, _∙_}
+use borrow.Author.Tests.{ltb-true, ltb-false, lt-ltb, le-ltb, leb-true, le-leb, eqb-true, eq-eqb, eqb-false, ne-eqb}
+use lib.Dec.{eqb, leb, ltb}
+use Rattle.laws.specs.Every.{pass, more, two, cases, clash}
+use Rattle.laws.specs.Tests.{both, both-pass, cond-cases, either}
+use Rattle.pages.specs.Vulkan.{Resource}
+use Rattle.model.specs.Block.{Chunk, Spot, first, isFree, spots}
+use Rattle.model.specs.Placing.{Request, takenAt, fitsAt, holds, smaller, best as bestOf, chosen, chunkBefore, chunkAfter}
+use Rattle.table.specs.Layout.{firstSlot, sizeAt, firstByteAt, kindAt, nextAt}
+use Rattle.words.specs.Words.{slotOf, chunksOf, blockOf, sound}
+use Rattle.words.specs.Linked.{linked-slot}
+use Rattle.words.specs.Spots.{InSlot, sound-spot, in-table}
+use Rattle.words.specs.Written.{known}
+use Rattle.search.specs.Best.{bestSlot, betterAt}
+use Rattle.search.specs.Fit.{beforeAt, afterAt, before-chunk, after-chunk, next-first}
+use Rattle.search.specs.Found.{slotOfSpot}
+use Rattle.search.specs.Held.{HeldIn, in-words, in-bytes}
+
+-- ---- from left to right
+
+-- the better of what was chosen so far and what is chosen of the chunks ahead
+abbrev pub keepBest : Option Spot → Option Spot → Option Spot
+keepBest none y = y
+keepBest (some x) y = smaller x y
+
+keep-none : (a : Option Spot) → keepBest a none ≡ a
+keep-none none = refl
+keep-none (some x) = refl
+
+module _ (x y z : Spot) where
+  abbrev size-x : ℕ
+  size-x = x .chunk .size
+
+  abbrev size-y : ℕ
+  size-y = y .chunk .size
+
+  abbrev size-z : ℕ
+  size-z = z .chunk .size
+
+  -- the best of three does not depend on which two are compared first
+  three : (t u : Bool) → ltb size-z size-y ≡ t → ltb size-y size-x ≡ u
+      → smaller x (smaller y (some z)) ≡ keepBest (smaller x (some y)) (some z)
+  three true true e f =
+      let g : ltb size-z size-x ≡ true = lt-ltb size-z size-x (omega (arith, ltb-true)) in
+      rw (f, e, g)
+  three true false e f = rw (f, e)
+  three false true e f = rw (f, e, f)
+  three false false e f =
+      let g : ltb size-z size-x ≡ false = le-ltb size-z size-x (omega (arith, ltb-false)) in
+      rw (f, e, f, g)
+
+keep-later : (a : Option Spot) (z : Spot) (o : Option Spot) → keepBest a (smaller z o) ≡ keepBest (keepBest a (some z)) o
+keep-later none z o = refl
+keep-later (some x) z none = sym (keep-none (smaller x (some z)))
+keep-later (some x) z (some y) = three x z y _ _ refl refl
+
+-- one chunk is taken from those ahead
+keep-step : (passes : Spot → Bool) (a : Option Spot) (z : Spot) (zs : List Spot)
+    → keepBest a (bestOf passes (z ∷ zs)) ≡ keepBest (cond (passes z) (keepBest a (some z)) a) (bestOf passes zs)
+keep-step passes a z zs = go (passes z)
+  where
+    go : (t : Bool) → keepBest a (cond t (smaller z (bestOf passes zs)) (bestOf passes zs))
+        ≡ keepBest (cond t (keepBest a (some z)) a) (bestOf passes zs)
+    go true = keep-later a z (bestOf passes zs)
+    go false = refl
+
+-- ---- one chunk, by the words of its slot
+
+fit-size : (r : Request) (begin size : ℕ) (before after : Resource) → fitsAt r begin size before after ≡ true → r .size ≤ size
+unfolding fitsAt takenAt
+fit-size r begin size before after e =
+    omega (arith, leb-true (takenAt r begin before) size (both (leb (takenAt r begin before) size) _ e .0))
+
+module _ (ws : List ℕ) (k : ℕ) (z : Spot) (h : InSlot ws k z) (r : Request) where
+  abbrev fit : Bool
+  fit = fitsAt r (first z) (z .chunk .size) (chunkBefore z) (chunkAfter z)
+
+  same-fit : fitsAt r (firstByteAt ws k) (sizeAt ws k) (beforeAt ws k) (afterAt ws k) ≡ fit
+  same-fit =
+      let w = in-words ws k z h in
+      λ i. fitsAt r (w .begins i) (w .size i) (before-chunk ws k z h i) (after-chunk ws k z h i)
+
+  -- a better chunk passes
+  better : (least : ℕ) → betterAt ws k least r ≡ true → (holds r z ≡ true) × (z .chunk .size < least)
+  unfolding betterAt
+  better least e =
+      let w = in-words ws k z h in
+      let kind : kindAt ws k ≡ 0 = eqb-true _ _ (pass _ 2 e) in
+      let size : sizeAt ws k < least = ltb-true _ _ (pass _ 1 e) in
+      (both-pass (eq-eqb _ _ (sym (w .kind) ∙ kind)) (sym same-fit ∙ pass _ 3 e), omega (arith, w .size))
+
+  -- a chunk that passes and is not better has no fewer bytes
+  worse : (least : ℕ) → betterAt ws k least r ≡ false → holds r z ≡ true → least ≤ z .chunk .size
+  unfolding betterAt
+  worse least e t =
+      let w = in-words ws k z h in
+      let p = both (isFree (z .chunk)) fit t in
+      let size : r .size ≤ z .chunk .size = fit-size r (first z) (z .chunk .size) (chunkBefore z) (chunkAfter z) (p .1) in
+      either _ (z .chunk .size) least
+      (λ l.
+      absurd (clash
+      (more _ _ (le-leb (r .size) (sizeAt ws k) (omega (arith, w .size)))
+      (more _ _ (lt-ltb (sizeAt ws k) least (omega (arith, w .size)))
+      (two _ _ (eq-eqb _ _ (w .kind ∙ eqb-true _ _ (p .0))) (same-fit ∙ p .1))))
+      e))
+      (λ l. l)
+
+-- ---- the loop
+
+-- best and least are the slot and the size of the best so far
+abbrev Noted : Option Spot → ℕ → ℕ → Type 0
+Noted none best least = (best ≡ 0) × (2 ^ 40 < least)
+Noted (some z) best least = (best ≡ z .chunk .slot) × (least ≡ z .chunk .size)
+
+-- The search is about to look at slot k: those on the left were looked at.
+pub record Searching (ws : List ℕ) (r : Request) (k best least : ℕ) : Type 0 where
+  left : List Chunk
+  right : List Chunk
+  so-far : Option Spot
+  whole : reverseAux left right ≡ blockOf ws .chunks
+  next : k ≡ slotOf right
+  choice : keepBest so-far (bestOf (holds r) (spots left right)) ≡ chosen r (blockOf ws)
+  noted : Noted so-far best least
+
+-- It begins with the first chunk, and with none chosen.
+pub begin : (ws : List ℕ) (r : Request) (k least : ℕ) → sound ws ≡ true → k ≡ firstSlot ws → 2 ^ 40 < least
+    → Searching ws r k 0 least
+unfolding blockOf
+begin ws r k least s e l = record {
+  left = [];
+  right = chunksOf ws;
+  so-far = none;
+  whole = refl;
+  next = e ∙ linked-slot ws 0 (firstSlot ws) 0 (chunksOf ws) (known ws s .links);
+  choice = refl;
+  noted = (refl, l);
+}
+
+module _ (ws : List ℕ) (s : sound ws ≡ true) (r : Request) (k best least : ℕ) where
+  -- the chunk in slot k is the first of those on the right
+  here : (left cs : List Chunk) (c : Chunk) → reverseAux left (c ∷ cs) ≡ blockOf ws .chunks → k ≡ c .slot
+      → InSlot ws k (record { left = left; chunk = c; right = cs })
+  here left cs c w e =
+      subst (λ (j : ℕ). InSlot ws j (record { left = left; chunk = c; right = cs })) (sym e) (sound-spot ws s _ w)
+
+  -- A slot other than 0 holds a chunk.
+  pub held : Searching ws r k best least → k ≢ 0 → HeldIn ws k
+  held h n = go (h .right) (h .whole) (h .next)
+    where
+      go : (right : List Chunk) → reverseAux (h .left) right ≡ blockOf ws .chunks → k ≡ slotOf right → HeldIn ws k
+      go [] w e = absurd (n e)
+      go (c ∷ cs) w e = (_, here (h .left) cs c w e)
+
+  -- At slot 0 all were looked at.
+  pub done : Searching ws r k best least → k ≡ 0 → best ≡ bestSlot ws r
+  unfolding bestSlot
+  done h z = go (h .right) (h .whole) (h .next) (h .choice)
+    where
+      noted-slot : (o : Option Spot) → Noted o best least → best ≡ slotOfSpot o
+      noted-slot none q = q .0
+      noted-slot (some x) q = q .0
+
+      go : (right : List Chunk) → reverseAux (h .left) right ≡ blockOf ws .chunks → k ≡ slotOf right
+          → keepBest (h .so-far) (bestOf (holds r) (spots (h .left) right)) ≡ chosen r (blockOf ws)
+          → best ≡ slotOfSpot (chosen r (blockOf ws))
+      go [] w e q = noted-slot (h .so-far) (h .noted) ∙ ap slotOfSpot (sym (keep-none (h .so-far)) ∙ q)
+      go (c ∷ cs) w e q = absurd (omega (arith, in-table ws k _ (here (h .left) cs c w e) .0))
+
+  -- the search goes on at the next slot
+  on : (left cs : List Chunk) (c : Chunk) → reverseAux left (c ∷ cs) ≡ blockOf ws .chunks → k ≡ c .slot
+      → (o : Option Spot) (b l : ℕ) → Noted o b l
+      → keepBest o (bestOf (holds r) (spots (c ∷ left) cs)) ≡ chosen r (blockOf ws)
+      → Searching ws r (nextAt ws k) b l
+  on left cs c w e o b l q x = record {
+    left = c ∷ left;
+    right = cs;
+    so-far = o;
+    whole = w;
+    next = in-words ws k _ (here left cs c w e) .next;
+    choice = x;
+    noted = q;
+  }
+
+  -- A better chunk is noted.
+  pub go-better : Searching ws r k best least → k ≢ 0 → betterAt ws k least r ≡ true
+      → Searching ws r (nextAt ws k) k (sizeAt ws k)
+  go-better h n t = go (h .right) (h .whole) (h .next) (h .choice)
+    where
+      replaced : (o : Option Spot) (z : Spot) → Noted o best least → z .chunk .size < least → keepBest o (some z) ≡ some z
+      replaced none z q l = refl
+      replaced (some x) z q l = rw (lt-ltb (z .chunk .size) (x .chunk .size) (omega (arith, q .1)))
+
+      go : (right : List Chunk) → reverseAux (h .left) right ≡ blockOf ws .chunks → k ≡ slotOf right
+          → keepBest (h .so-far) (bestOf (holds r) (spots (h .left) right)) ≡ chosen r (blockOf ws)
+          → Searching ws r (nextAt ws k) k (sizeAt ws k)
+      go [] w e q = absurd (n e)
+      go (c ∷ cs) w e q =
+          let z : Spot = record { left = h .left; chunk = c; right = cs } in
+          let i = here (h .left) cs c w e in
+          let b = better ws k z i r least t in
+          let a : cond (holds r z) (keepBest (h .so-far) (some z)) (h .so-far) ≡ some z =
+          rw (b .0) (replaced (h .so-far) z (h .noted) (b .1)) in
+          on (h .left) cs c w e (some z) k (sizeAt ws k) (e, in-words ws k z i .size)
+          (ap (λ (o : Option Spot). keepBest o (bestOf (holds r) (spots (c ∷ h .left) cs))) (sym a)
+          ∙ sym (keep-step (holds r) (h .so-far) z (spots (c ∷ h .left) cs)) ∙ q)
+
+  -- Any other is passed over.
+  pub go-worse : Searching ws r k best least → k ≢ 0 → betterAt ws k least r ≡ false
+      → Searching ws r (nextAt ws k) best least
+  go-worse h n t = go (h .right) (h .whole) (h .next) (h .choice)
+    where
+      kept : (o : Option Spot) (z : Spot) → Noted o best least → z .chunk .size ≤ 2 ^ 40 → least ≤ z .chunk .size
+          → keepBest o (some z) ≡ o
+      kept none z q m l = absurd (omega (arith, q .1))
+      kept (some x) z q m l = rw (le-ltb (z .chunk .size) (x .chunk .size) (omega (arith, q .1)))
+
+      go : (right : List Chunk) → reverseAux (h .left) right ≡ blockOf ws .chunks → k ≡ slotOf right
+          → keepBest (h .so-far) (bestOf (holds r) (spots (h .left) right)) ≡ chosen r (blockOf ws)
+          → Searching ws r (nextAt ws k) best least
+      go [] w e q = absurd (n e)
+      go (c ∷ cs) w e q =
+          let z : Spot = record { left = h .left; chunk = c; right = cs } in
+          let i = here (h .left) cs c w e in
+          let m = in-bytes ws k z i s in
+          let a : cond (holds r z) (keepBest (h .so-far) (some z)) (h .so-far) ≡ h .so-far =
+          ⊎-elim
+          (λ p. rw p (kept (h .so-far) z (h .noted) (omega (arith, in-words ws k z i .size)) (worse ws k z i r least t p)))
+          (λ p. rw p)
+          (cases (holds r z)) in
+          on (h .left) cs c w e (h .so-far) best least (h .noted)
+          (ap (λ (o : Option Spot). keepBest o (bestOf (holds r) (spots (c ∷ h .left) cs))) (sym a)
+          ∙ sym (keep-step (holds r) (h .so-far) z (spots (c ∷ h .left) cs)) ∙ q)
+
+-- ---- the loop ends
+
+-- what is left of the addresses, from slot k on
+abbrev pub ahead : List ℕ → ℕ → ℕ
+ahead ws k = cond (eqb k 0) 0 (2 ^ 64 - firstByteAt ws k)
+
+-- It falls from slot to slot.
+pub ahead-falls : (ws : List ℕ) → sound ws ≡ true → (k : ℕ) → HeldIn ws k → k ≢ 0 → ahead ws (nextAt ws k) < ahead ws k
+ahead-falls ws s k h n =
+    let b = in-bytes ws k (h .0) (h .1) s in
+    rw (ne-eqb k 0 n)
+    (cond-cases (λ (x : ℕ). x < 2 ^ 64 - firstByteAt ws k) (eqb (nextAt ws k) 0)
+    (λ e. omega arith)
+    (λ e. omega (arith, next-first ws k h (eqb-false _ _ e))))
