@@ -1,8 +1,33 @@
--- A block's calls at the boundary: the number that stands for each answer, and the words. Assumes nothing.
+-- A block's calls at the boundary: the numbers that stand for each answer, and the words. Assumes nothing.
 use Prim.Native.Nat.{ℕ}
 use mathlib.Core.List.{List}
-use Rattle.laws.specs.Reply.{Reply, number}
+use Rattle.laws.specs.Reply.{Reply, accepted, refused, number}
+use Rattle.model.specs.Placing.{Request}
+use Rattle.block.specs.Placing.{Given}
 
 -- the number given back, and the words after the call
 abbrev pub wordsOut : {A : Type 0} → Reply A × List ℕ → ℕ × List ℕ
 wordsOut answer = (number (answer .0), answer .1)
+
+-- a request in numbers
+abbrev pub request : ℕ → ℕ → ℕ → ℕ → ℕ → Request
+request size alignment kind granularity label = record {
+  size = size;
+  alignment = alignment;
+  kind = kind;
+  granularity = granularity;
+  label = label;
+}
+
+-- the offset and the id that are written: 0 on a refusal
+abbrev pub offsetOut : Reply Given → ℕ
+offsetOut (accepted g) = g .offset
+offsetOut (refused n) = 0
+
+abbrev pub idOut : Reply Given → ℕ
+idOut (accepted g) = g .id
+idOut (refused n) = 0
+
+-- the number given back, both values, and the words after the call
+abbrev pub placedOut : Reply Given × List ℕ → ℕ × ℕ × ℕ × List ℕ
+placedOut answer = (number (answer .0), offsetOut (answer .0), idOut (answer .0), answer .1)
