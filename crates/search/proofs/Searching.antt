@@ -1,6 +1,6 @@
 -- The search for the best chunk as a loop: what was chosen so far, and the best of what is ahead, come to the choice.
 -- Assumes nothing.
-use Prim.Native.Nat.{ℕ, _-_, _^_, _≤_, _<_}
+use Prim.Native.Nat.{ℕ, _+_, _-_, _^_, _≤_, _<_}
 use native.Mathlib.Omega.{arith}
 use mathlib.Core.Bool.{Bool, true, false, cond}
 use mathlib.Core.List.{List, [], _∷_, reverseAux}
@@ -27,7 +27,7 @@ use Rattle.search.specs.Held.{HeldIn, in-words, in-bytes}
 -- ---- from left to right
 
 -- the better of what was chosen so far and what is chosen of the chunks ahead
-abbrev pub keepBest : Option Spot → Option Spot → Option Spot
+abbrev keepBest : Option Spot → Option Spot → Option Spot
 keepBest none y = y
 keepBest (some x) y = smaller x y
 
@@ -120,21 +120,22 @@ abbrev Noted : Option Spot → ℕ → ℕ → Type 0
 Noted none best least = (best ≡ 0) × (2 ^ 40 < least)
 Noted (some z) best least = (best ≡ z .chunk .slot) × (least ≡ z .chunk .size)
 
--- The search is about to look at slot k: those on the left were looked at.
-pub record Searching (ws : List ℕ) (r : Request) (k best least : ℕ) : Type 0 where
+-- The search is about to look at slot k: those on the left were looked at, and the best has so many bytes to spare.
+pub record Searching (ws : List ℕ) (r : Request) (k best spare : ℕ) : Type 0 where
   left : List Chunk
   right : List Chunk
   so-far : Option Spot
   whole : reverseAux left right ≡ blockOf ws .chunks
   next : k ≡ slotOf right
   choice : keepBest so-far (bestOf (holds r) (spots left right)) ≡ chosen r (blockOf ws)
-  noted : Noted so-far best least
+  noted : Noted so-far best (spare + r .size)
+  pub word : spare + r .size < 2 ^ 64
 
 -- It begins with the first chunk, and with none chosen.
-pub begin : (ws : List ℕ) (r : Request) (k least : ℕ) → sound ws ≡ true → k ≡ firstSlot ws → 2 ^ 40 < least
-    → Searching ws r k 0 least
+pub begin : (ws : List ℕ) (r : Request) (k spare : ℕ) → sound ws ≡ true → k ≡ firstSlot ws → 2 ^ 40 < spare + r .size
+    → spare + r .size < 2 ^ 64 → Searching ws r k 0 spare
 unfolding blockOf
-begin ws r k least s e l = record {
+begin ws r k spare s e l m = record {
   left = [];
   right = chunksOf ws;
   so-far = none;
@@ -142,9 +143,13 @@ begin ws r k least s e l = record {
   next = e ∙ linked-slot ws 0 (firstSlot ws) 0 (chunksOf ws) (known ws s .links);
   choice = refl;
   noted = (refl, l);
+  word = m;
 }
 
-module _ (ws : List ℕ) (s : sound ws ≡ true) (r : Request) (k best least : ℕ) where
+module _ (ws : List ℕ) (s : sound ws ≡ true) (r : Request) (k best spare : ℕ) where
+  abbrev least : ℕ
+  least = spare + r .size
+
   -- the chunk in slot k is the first of those on the right
   here : (left cs : List Chunk) (c : Chunk) → reverseAux left (c ∷ cs) ≡ blockOf ws .chunks → k ≡ c .slot
       → InSlot ws k (record { left = left; chunk = c; right = cs })
@@ -152,7 +157,7 @@ module _ (ws : List ℕ) (s : sound ws ≡ true) (r : Request) (k best least : �
       subst (λ (j : ℕ). InSlot ws j (record { left = left; chunk = c; right = cs })) (sym e) (sound-spot ws s _ w)
 
   -- A slot other than 0 holds a chunk.
-  pub held : Searching ws r k best least → k ≢ 0 → HeldIn ws k
+  pub held : Searching ws r k best spare → k ≢ 0 → HeldIn ws k
   held h n = go (h .right) (h .whole) (h .next)
     where
       go : (right : List Chunk) → reverseAux (h .left) right ≡ blockOf ws .chunks → k ≡ slotOf right → HeldIn ws k
@@ -160,7 +165,7 @@ module _ (ws : List ℕ) (s : sound ws ≡ true) (r : Request) (k best least : �
       go (c ∷ cs) w e = (_, here (h .left) cs c w e)
 
   -- At slot 0 all were looked at.
-  pub done : Searching ws r k best least → k ≡ 0 → best ≡ bestSlot ws r
+  pub done : Searching ws r k best spare → k ≡ 0 → best ≡ bestSlot ws r
   unfolding bestSlot
   done h z = go (h .right) (h .whole) (h .next) (h .choice)
     where
@@ -176,10 +181,10 @@ module _ (ws : List ℕ) (s : sound ws ≡ true) (r : Request) (k best least : �
 
   -- the search goes on at the next slot
   on : (left cs : List Chunk) (c : Chunk) → reverseAux left (c ∷ cs) ≡ blockOf ws .chunks → k ≡ c .slot
-      → (o : Option Spot) (b l : ℕ) → Noted o b l
+      → (o : Option Spot) (b l : ℕ) → Noted o b (l + r .size) → l + r .size < 2 ^ 64
       → keepBest o (bestOf (holds r) (spots (c ∷ left) cs)) ≡ chosen r (blockOf ws)
       → Searching ws r (nextAt ws k) b l
-  on left cs c w e o b l q x = record {
+  on left cs c w e o b l q m x = record {
     left = c ∷ left;
     right = cs;
     so-far = o;
@@ -187,12 +192,18 @@ module _ (ws : List ℕ) (s : sound ws ≡ true) (r : Request) (k best least : �
     next = in-words ws k _ (here left cs c w e) .next;
     choice = x;
     noted = q;
+    word = m;
   }
 
-  -- A better chunk is noted.
-  pub go-better : Searching ws r k best least → k ≢ 0 → betterAt ws k least r ≡ true
-      → Searching ws r (nextAt ws k) k (sizeAt ws k)
-  go-better h n t = go (h .right) (h .whole) (h .next) (h .choice)
+  -- A better chunk is no smaller than the request,
+  pub better-size : betterAt ws k least r ≡ true → r .size ≤ sizeAt ws k
+  unfolding betterAt
+  better-size t = leb-true _ _ (pass _ 0 t)
+
+  -- and is noted: it has its size, less that of the request, to spare.
+  pub go-better : Searching ws r k best spare → k ≢ 0 → betterAt ws k least r ≡ true → (size : ℕ) → size ≡ sizeAt ws k
+      → Searching ws r (nextAt ws k) k (size - r .size)
+  go-better h n t size d = go (h .right) (h .whole) (h .next) (h .choice)
     where
       replaced : (o : Option Spot) (z : Spot) → Noted o best least → z .chunk .size < least → keepBest o (some z) ≡ some z
       replaced none z q l = refl
@@ -200,7 +211,7 @@ module _ (ws : List ℕ) (s : sound ws ≡ true) (r : Request) (k best least : �
 
       go : (right : List Chunk) → reverseAux (h .left) right ≡ blockOf ws .chunks → k ≡ slotOf right
           → keepBest (h .so-far) (bestOf (holds r) (spots (h .left) right)) ≡ chosen r (blockOf ws)
-          → Searching ws r (nextAt ws k) k (sizeAt ws k)
+          → Searching ws r (nextAt ws k) k (size - r .size)
       go [] w e q = absurd (n e)
       go (c ∷ cs) w e q =
           let z : Spot = record { left = h .left; chunk = c; right = cs } in
@@ -208,13 +219,15 @@ module _ (ws : List ℕ) (s : sound ws ≡ true) (r : Request) (k best least : �
           let b = better ws k z i r least t in
           let a : cond (holds r z) (keepBest (h .so-far) (some z)) (h .so-far) ≡ some z =
           rw (b .0) (replaced (h .so-far) z (h .noted) (b .1)) in
-          on (h .left) cs c w e (some z) k (sizeAt ws k) (e, in-words ws k z i .size)
+          let f : size - r .size + r .size ≡ sizeAt ws k = omega (arith, better-size t) in
+          let m = in-bytes ws k z i s in
+          on (h .left) cs c w e (some z) k (size - r .size) (e, f ∙ in-words ws k z i .size) (omega arith)
           (ap (λ (o : Option Spot). keepBest o (bestOf (holds r) (spots (c ∷ h .left) cs))) (sym a)
           ∙ sym (keep-step (holds r) (h .so-far) z (spots (c ∷ h .left) cs)) ∙ q)
 
   -- Any other is passed over.
-  pub go-worse : Searching ws r k best least → k ≢ 0 → betterAt ws k least r ≡ false
-      → Searching ws r (nextAt ws k) best least
+  pub go-worse : Searching ws r k best spare → k ≢ 0 → betterAt ws k least r ≡ false
+      → Searching ws r (nextAt ws k) best spare
   go-worse h n t = go (h .right) (h .whole) (h .next) (h .choice)
     where
       kept : (o : Option Spot) (z : Spot) → Noted o best least → z .chunk .size ≤ 2 ^ 40 → least ≤ z .chunk .size
@@ -224,7 +237,7 @@ module _ (ws : List ℕ) (s : sound ws ≡ true) (r : Request) (k best least : �
 
       go : (right : List Chunk) → reverseAux (h .left) right ≡ blockOf ws .chunks → k ≡ slotOf right
           → keepBest (h .so-far) (bestOf (holds r) (spots (h .left) right)) ≡ chosen r (blockOf ws)
-          → Searching ws r (nextAt ws k) best least
+          → Searching ws r (nextAt ws k) best spare
       go [] w e q = absurd (n e)
       go (c ∷ cs) w e q =
           let z : Spot = record { left = h .left; chunk = c; right = cs } in
@@ -235,7 +248,7 @@ module _ (ws : List ℕ) (s : sound ws ≡ true) (r : Request) (k best least : �
           (λ p. rw p (kept (h .so-far) z (h .noted) (omega (arith, in-words ws k z i .size)) (worse ws k z i r least t p)))
           (λ p. rw p)
           (cases (holds r z)) in
-          on (h .left) cs c w e (h .so-far) best least (h .noted)
+          on (h .left) cs c w e (h .so-far) best spare (h .noted) (h .word)
           (ap (λ (o : Option Spot). keepBest o (bestOf (holds r) (spots (c ∷ h .left) cs))) (sym a)
           ∙ sym (keep-step (holds r) (h .so-far) z (spots (c ∷ h .left) cs)) ∙ q)
 

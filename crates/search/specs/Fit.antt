@@ -6,7 +6,7 @@ use mathlib.Core.Logic.{_≢_}
 use mathlib.Core.Path.{_≡_, refl, sym, ap, _∙_}
 use Rattle.pages.specs.Vulkan.{Resource}
 use Rattle.model.specs.Block.{Chunk, Spot, total, first}
-use Rattle.model.specs.Placing.{lastOf, nextOf, chunkBefore, chunkAfter}
+use Rattle.model.specs.Placing.{Request, lastOf, nextOf, chunkBefore, chunkAfter, offsetAt, offsetIn}
 use Rattle.model.specs.Put.{next-begins}
 use Rattle.table.specs.Layout.{sizeAt, firstByteAt, kindAt, nextAt, previousAt}
 use Rattle.words.specs.Words.{slotOf}
@@ -87,6 +87,10 @@ module _ (ws : List ℕ) (k : ℕ) (z : Spot) (h : InSlot ws k z) where
       let w = in-words ws k z h in
       (λ i. resourceOr (record { offset = w .begins i + w .size i; size = 0; kind = 0 }) ws (w .next i))
       ∙ next-at ws k (z .chunk) _ (first z + z .chunk .size) (z .left) (z .right) refl (omega arith) h
+
+  -- So the offset that is found by the words is the one in that chunk.
+  pub offset-chunk : (r : Request) → offsetAt r (firstByteAt ws k) (beforeAt ws k) ≡ offsetIn r z
+  offset-chunk r = λ i. offsetAt r (in-words ws k z h .begins i) (before-chunk i)
 
 -- The slots named by "previous" and "next" hold chunks.
 module _ (ws : List ℕ) (k : ℕ) (h : HeldIn ws k) (j : ℕ) where
