@@ -6,25 +6,23 @@ use mathlib.Core.List.{List, [], _∷_, reverseAux}
 use mathlib.Core.Logic.{_≢_}
 use mathlib.Core.Path.{_≡_, refl, sym, ap, _∙_}
 use borrow.Author.Tests.{eq-eqb, ne-eqb}
-use lib.Dec.{eqb}
-use lib.ListN.{getD}
 use Rattle.laws.specs.Cuts.{cut-all, swap-all, drop-all}
 use Rattle.laws.specs.Lists.{All}
 use Rattle.laws.specs.Tests.{cond-cases}
-use Rattle.model.specs.Block.{Chunk, Block, Spot, total, isFree, first}
+use Rattle.model.specs.Block.{Chunk, Block, Spot, total, isFree}
 use Rattle.model.specs.Choose.{Cut}
-use Rattle.model.specs.Effects.{chunksOf, replaced}
+use Rattle.model.specs.Effects.{chunksOf}
 use Rattle.model.specs.GivingBack.{grown, mergeLeft, mergeRight, freed}
 use Rattle.model.specs.Placing.{withChunks}
 use Rattle.model.specs.Sums.{total-cut, allocated-cut}
 use Rattle.model.specs.Totals.{replaced-total, live-size}
 use Rattle.table.specs.Layout.{Slot, slotCount, allocatedWord, sizeAt, kindAt, nextAt, previousAt}
 use Rattle.words.specs.Laid.{Laid, block-back}
-use Rattle.words.specs.Spots.{InSlot, in-table, in-row}
-use Rattle.words.specs.Words.{slotOf, encode, blockOf}
+use Rattle.words.specs.Spots.{InSlot, in-table, in-words, before-in, after-in, written-spot}
+use Rattle.words.specs.Words.{encode, blockOf}
 use Rattle.chunks.specs.JoinedWords.{taken-place, free-laid, joined-laid}
 use Rattle.chunks.specs.Premises.{FreeIn, LiveIn, TwoFree}
-use Rattle.chunks.specs.Sides.{previous-slot, next-slot, size-of-chunk, next-within, allocated-of-table}
+use Rattle.chunks.specs.Sides.{next-within, allocated-of-table}
 use Rattle.chunks.specs.Steps.{setFree, joined}
 use Rattle.block.specs.GivingBack.{nextTaken, joinNext, joinPrevious, Bounded}
 
@@ -33,10 +31,6 @@ abbrev Unnamed : Chunk → Type 0
 Unnamed c = c .kind ≡ 0 → c .label ≡ 0
 
 -- ---- one step
-
--- the kind in a slot is the chunk's
-kind-of-chunk : {ws : List ℕ} {k : ℕ} {z : Spot} → InSlot ws k z → kindAt ws k ≡ z .chunk .kind
-kind-of-chunk {ws} {k} {z} h = ap (λ (l : List ℕ). getD l 3 0) (in-row ws k z h)
 
 -- nothing is merged: the words stay
 unmerged : {ws : List ℕ} {k : ℕ} {z : Spot} → InSlot ws k z → ws ≡ encode (withChunks (blockOf ws) (chunksOf z))
@@ -60,7 +54,7 @@ joins {ws} {k} {left} {c} {d} {right} h f =
       in-table ws k _ (f .place),
       in-table ws (nextAt ws k) _ p,
       next-within p,
-      omega (arith, size-of-chunk (f .place), size-of-chunk p, pair-bytes (blockOf ws) h left c d right (f .place .cut)),
+      omega (arith, in-words (f .place) .size, in-words p .size, pair-bytes (blockOf ws) h left c d right (f .place .cut)),
     )
 
 -- ---- the next chunk
@@ -69,26 +63,22 @@ module _ (ws : List ℕ) (k : ℕ) (left : List Chunk) (c : Chunk) where
   abbrev here : List Chunk → Spot
   here right = record { left = left; chunk = c; right = right }
 
-  after : (d : Chunk) (right : List Chunk) → InSlot ws k (here (d ∷ right))
-      → InSlot ws (nextAt ws k) (record { left = c ∷ left; chunk = d; right = right })
-  after d right h = record { words = h .words; laid = h .laid; cut = h .cut; slot = sym (next-slot h) }
-
   pub no-next : (right : List Chunk) → FreeIn ws k (here right) → nextAt ws k ≡ 0
       → ws ≡ encode (joinNext (here right) (blockOf ws))
   unfolding joinNext
   no-next [] f e = unmerged (f .place)
-  no-next (d ∷ right) f e = absurd (omega (arith, e, in-table ws (nextAt ws k) _ (after d right (f .place)) .0))
+  no-next (d ∷ right) f e = absurd (omega (arith, e, in-table ws (nextAt ws k) _ (after-in (f .place)) .0))
 
   pub next-held : (right : List Chunk) → FreeIn ws k (here right) → nextAt ws k ≢ 0 → Slot ws (nextAt ws k)
-  next-held [] f n = absurd (n (next-slot (f .place)))
-  next-held (d ∷ right) f n = in-table ws (nextAt ws k) _ (after d right (f .place))
+  next-held [] f n = absurd (n (in-words (f .place) .next))
+  next-held (d ∷ right) f n = in-table ws (nextAt ws k) _ (after-in (f .place))
 
   pub next-live : (right : List Chunk) → FreeIn ws k (here right) → nextAt ws k ≢ 0 → kindAt ws (nextAt ws k) ≢ 0
       → ws ≡ encode (joinNext (here right) (blockOf ws))
   unfolding joinNext
-  next-live [] f n l = absurd (n (next-slot (f .place)))
+  next-live [] f n l = absurd (n (in-words (f .place) .next))
   next-live (d ∷ right) f n l =
-      let e : isFree d ≡ false = ne-eqb (d .kind) 0 (λ q. l (kind-of-chunk (after d right (f .place)) ∙ q)) in
+      let e : isFree d ≡ false = ne-eqb (d .kind) 0 (λ q. l (in-words (after-in (f .place)) .kind ∙ q)) in
       rw e (unmerged (f .place))
 
   two : (d : Chunk) (right : List Chunk) → FreeIn ws k (here (d ∷ right)) → kindAt ws (nextAt ws k) ≡ 0
@@ -97,14 +87,14 @@ module _ (ws : List ℕ) (k : ℕ) (left : List Chunk) (c : Chunk) where
     place = f .place;
     free = f .free;
     unnamed = f .unnamed;
-    next-free = sym (kind-of-chunk (after d right (f .place))) ∙ e;
+    next-free = sym (in-words (after-in (f .place)) .kind) ∙ e;
   }
 
   pub next-joins : (right : List Chunk) → FreeIn ws k (here right) → Bounded (blockOf ws) → nextAt ws k ≢ 0
       → kindAt ws (nextAt ws k) ≡ 0
       → Slot ws k × Slot ws (nextAt ws k) × (nextAt ws (nextAt ws k) ≤ slotCount ws)
       × (sizeAt ws k + sizeAt ws (nextAt ws k) < 2 ^ 64)
-  next-joins [] f h n e = absurd (n (next-slot (f .place)))
+  next-joins [] f h n e = absurd (n (in-words (f .place) .next))
   next-joins (d ∷ right) f h n e = joins h (two d right f e)
 
   pub next-joined : (right : List Chunk) (ws′ : List ℕ) → FreeIn ws k (here right) → nextAt ws k ≢ 0
@@ -112,7 +102,7 @@ module _ (ws : List ℕ) (k : ℕ) (left : List Chunk) (c : Chunk) where
       → ((l : List Chunk) (a b : Chunk) (r : List Chunk) → TwoFree ws k l a b r → ws′ ≡ encode (joined l a b r (blockOf ws)))
       → ws′ ≡ encode (joinNext (here right) (blockOf ws))
   unfolding joinNext joined
-  next-joined [] ws′ f n e j = absurd (n (next-slot (f .place)))
+  next-joined [] ws′ f n e j = absurd (n (in-words (f .place) .next))
   next-joined (d ∷ right) ws′ f n e j =
       let t = two d right f e in
       let q : isFree d ≡ true = eq-eqb (d .kind) 0 (t .next-free) in
@@ -124,34 +114,30 @@ module _ (ws : List ℕ) (k : ℕ) (c : Chunk) (right : List Chunk) where
   abbrev there : List Chunk → Spot
   there left = record { left = left; chunk = c; right = right }
 
-  before : (p : Chunk) (left : List Chunk) → InSlot ws k (there (p ∷ left))
-      → InSlot ws (previousAt ws k) (record { left = left; chunk = p; right = c ∷ right })
-  before p left h = record { words = h .words; laid = h .laid; cut = h .cut; slot = sym (previous-slot h) }
-
   pub no-previous : (left : List Chunk) → FreeIn ws k (there left) → previousAt ws k ≡ 0
       → ws ≡ encode (joinPrevious (there left) (blockOf ws))
   unfolding joinPrevious
   no-previous [] f e = unmerged (f .place)
   no-previous (p ∷ left) f e =
-      absurd (omega (arith, e, in-table ws (previousAt ws k) _ (before p left (f .place)) .0))
+      absurd (omega (arith, e, in-table ws (previousAt ws k) _ (before-in (f .place)) .0))
 
   pub previous-held : (left : List Chunk) → FreeIn ws k (there left) → previousAt ws k ≢ 0 → Slot ws (previousAt ws k)
-  previous-held [] f n = absurd (n (previous-slot (f .place)))
-  previous-held (p ∷ left) f n = in-table ws (previousAt ws k) _ (before p left (f .place))
+  previous-held [] f n = absurd (n (in-words (f .place) .previous))
+  previous-held (p ∷ left) f n = in-table ws (previousAt ws k) _ (before-in (f .place))
 
   pub previous-live : (left : List Chunk) → FreeIn ws k (there left) → previousAt ws k ≢ 0
       → kindAt ws (previousAt ws k) ≢ 0 → ws ≡ encode (joinPrevious (there left) (blockOf ws))
   unfolding joinPrevious
-  previous-live [] f n l = absurd (n (previous-slot (f .place)))
+  previous-live [] f n l = absurd (n (in-words (f .place) .previous))
   previous-live (p ∷ left) f n l =
-      let e : isFree p ≡ false = ne-eqb (p .kind) 0 (λ q. l (kind-of-chunk (before p left (f .place)) ∙ q)) in
+      let e : isFree p ≡ false = ne-eqb (p .kind) 0 (λ q. l (in-words (before-in (f .place)) .kind ∙ q)) in
       rw e (unmerged (f .place))
 
   pair : (p : Chunk) (left : List Chunk) → FreeIn ws k (there (p ∷ left)) → Bounded (blockOf ws)
       → kindAt ws (previousAt ws k) ≡ 0 → TwoFree ws (previousAt ws k) left p c right
   pair p left f h e =
-      let i = before p left (f .place) in
-      let z : p .kind ≡ 0 = sym (kind-of-chunk i) ∙ e in
+      let i = before-in (f .place) in
+      let z : p .kind ≡ 0 = sym (in-words i .kind) ∙ e in
       let l : All (λ (c : Chunk). c .kind ≡ 0 → c .label ≡ 0) (reverseAux left (p ∷ c ∷ right)) = rw (i .cut) (h .labels) in
       record {
         place = i;
@@ -165,7 +151,7 @@ module _ (ws : List ℕ) (k : ℕ) (c : Chunk) (right : List Chunk) where
       → Slot ws (previousAt ws k) × Slot ws (nextAt ws (previousAt ws k))
       × (nextAt ws (nextAt ws (previousAt ws k)) ≤ slotCount ws)
       × (sizeAt ws (previousAt ws k) + sizeAt ws (nextAt ws (previousAt ws k)) < 2 ^ 64)
-  previous-joins [] f h n e = absurd (n (previous-slot (f .place)))
+  previous-joins [] f h n e = absurd (n (in-words (f .place) .previous))
   previous-joins (p ∷ left) f h n e = joins h (pair p left f h e)
 
   pub previous-joined : (left : List Chunk) (ws′ : List ℕ) → FreeIn ws k (there left) → Bounded (blockOf ws)
@@ -174,7 +160,7 @@ module _ (ws : List ℕ) (k : ℕ) (c : Chunk) (right : List Chunk) where
       → ws′ ≡ encode (joined l a b r (blockOf ws)))
       → ws′ ≡ encode (joinPrevious (there left) (blockOf ws))
   unfolding joinPrevious joined
-  previous-joined [] ws′ f h n e j = absurd (n (previous-slot (f .place)))
+  previous-joined [] ws′ f h n e j = absurd (n (in-words (f .place) .previous))
   previous-joined (p ∷ left) ws′ f h n e j =
       let t = pair p left f h e in
       let q : isFree p ≡ true = eq-eqb (p .kind) 0 (t .free) in
@@ -182,18 +168,9 @@ module _ (ws : List ℕ) (k : ℕ) (c : Chunk) (right : List Chunk) where
 
 -- ---- from one step to the next
 
--- words as a laid block is written hold its chunks
-module _ (b : Block) (h : Laid b) (ws : List ℕ) (e : ws ≡ encode b) where
-  pub block-of : blockOf ws ≡ b
-  block-of = ap blockOf e ∙ block-back b h
-
-  in-written : (z : Spot) → Cut (b .chunks) z → (k : ℕ) → z .chunk .slot ≡ k → InSlot ws k z
-  in-written z cut k s = record {
-    words = ap encode block-of ∙ sym e;
-    laid = rw block-of h;
-    cut = rw block-of cut;
-    slot = s;
-  }
+-- the block that words hold which are written as a laid one
+block-of : (b : Block) → Laid b → (ws : List ℕ) → ws ≡ encode b → blockOf ws ≡ b
+block-of b h ws e = ap blockOf e ∙ block-back b h
 
 -- once a free next chunk is merged in
 module _ (b : Block) (left : List Chunk) (c : Chunk) where
@@ -245,7 +222,7 @@ pub sets-free : (ws : List ℕ) (k : ℕ) (z : Spot) → LiveIn ws k z → Slot 
 sets-free ws k z l =
     let p = l .place in (
       in-table ws k z p,
-      omega (arith, size-of-chunk p, allocated-of-table p, allocated-cut (z .left) (z .chunk ∷ z .right), live-size (z .chunk) (l .live)),
+      omega (arith, in-words p .size, allocated-of-table p, allocated-cut (z .left) (z .chunk ∷ z .right), live-size (z .chunk) (l .live)),
     )
 
 module _ (ws : List ℕ) (k : ℕ) (z : Spot) (l : LiveIn ws k z) (h : Bounded (blockOf ws)) (ws₁ : List ℕ)
@@ -263,7 +240,7 @@ module _ (ws : List ℕ) (k : ℕ) (z : Spot) (l : LiveIn ws k z) (h : Bounded (
   pub in₁ : FreeIn ws₁ k free₁
   unfolding setFree
   in₁ = record {
-    place = in-written (setFree z (blockOf ws)) laid₁ ws₁ e₁ free₁ refl k (l .place .slot);
+    place = written-spot (setFree z (blockOf ws)) laid₁ ws₁ e₁ free₁ refl k (l .place .slot);
     free = refl;
     unnamed = refl;
   }
@@ -296,7 +273,7 @@ module _ (ws : List ℕ) (k : ℕ) (z : Spot) (l : LiveIn ws k z) (h : Bounded (
     in₂ =
         let q = next-chunk (blockOf ws₁) (z .left) (grown (z .chunk) 0) (z .right) refl refl in
         record {
-          place = in-written (joinNext free₁ (blockOf ws₁)) laid₂ ws₂ e₂ free₂ refl k (q .0 ∙ l .place .slot);
+          place = written-spot (joinNext free₁ (blockOf ws₁)) laid₂ ws₂ e₂ free₂ refl k (q .0 ∙ l .place .slot);
           free = q .1;
           unnamed = q .2;
         }

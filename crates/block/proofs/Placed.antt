@@ -6,28 +6,26 @@ use mathlib.Core.List.{List, _∷_}
 use mathlib.Core.Logic.{_≢_, ⊎-elim}
 use mathlib.Core.Option.{Option, none, some}
 use mathlib.Core.Path.{_≡_, refl, sym, ap, subst, _∙_}
-use lib.ListN.{getD}
 use Rattle.laws.specs.Powers.{Pow2}
 use Rattle.laws.specs.Reply.{Reply, accepted, refused}
-use Rattle.model.specs.Block.{Block, Spot, total, first, allocated}
-use Rattle.model.specs.Choose.{Cut}
+use Rattle.model.specs.Block.{Spot, total, first, allocated}
 use Rattle.model.specs.Placing.{Request, Placed, offsetAt, takenAt, offsetIn, taken, chosen, newSlot, fault, unlessFault, placeIn, place}
-use Rattle.model.specs.Put.{Choice, FitsIn, answers, choice-fits, pieceIn, wholeIn}
+use Rattle.model.specs.Put.{Choice, FitsIn, answers, choice-fits}
 use Rattle.model.specs.Requests.{Formed, no-fault}
 use Rattle.model.specs.Soundness.{Sound}
 use Rattle.model.specs.Sums.{total-cut, allocated-cut, allocated-most}
 use Rattle.model.specs.Totals.{free-size}
-use Rattle.table.specs.Layout.{Slot, isTable, slotCount, allocatedWord, nextId, idAt, sizeAt, firstByteAt, previousAt, row}
-use Rattle.words.specs.Spots.{InSlot, in-table, in-row}
-use Rattle.words.specs.Words.{rowOf, slotOf, encode, blockOf, chunksOf, sound, decode}
+use Rattle.table.specs.Layout.{Slot, isTable, slotCount, allocatedWord, nextId, idAt, sizeAt, firstByteAt, previousAt}
+use Rattle.words.specs.Spots.{InSlot, in-table, in-words}
+use Rattle.words.specs.Words.{encode, blockOf, sound}
 use Rattle.words.specs.Written.{known}
 use Rattle.chunks.specs.Premises.{NoneIn}
 use Rattle.chunks.specs.Sides.{previous-within}
 use Rattle.chunks.specs.Steps.{takenWhole, splitInTwo}
 use Rattle.search.specs.Best.{bestSlot, best-none, best-some}
 use Rattle.search.specs.Empty.{new-slot-empty}
-use Rattle.search.specs.Fit.{beforeAt, before-chunk}
-use Rattle.block.specs.Calls.{onTable, leaves}
+use Rattle.search.specs.Fit.{beforeAt, offset-chunk}
+use Rattle.block.specs.Calls.{leaves}
 use Rattle.block.specs.Look.{tableFault}
 use Rattle.block.specs.Placing.{Given, given, placedOn, allocateOn, Chosen, Measured}
 use Rattle.block.proofs.Fault.{unfit, on-block}
@@ -41,23 +39,20 @@ module _ (ws : List ℕ) (k : ℕ) (r : Request) (h : Chosen ws k r) where
 
   -- ---- what the words of the slot are
 
-  cells : row ws k ≡ rowOf (slotOf (z .left)) (first z) (slotOf (z .right)) (z .chunk)
-  cells = in-row ws k z place-of
-
   pub slot-in : Slot ws k
   slot-in = in-table ws k z place-of
 
   id-in : idAt ws k ≡ z .chunk .id
-  id-in = ap (λ (l : List ℕ). getD l 0 0) cells
+  id-in = in-words place-of .id
 
   size-in : sizeAt ws k ≡ z .chunk .size
-  size-in = ap (λ (l : List ℕ). getD l 1 0) cells
+  size-in = in-words place-of .size
 
   first-in : firstByteAt ws k ≡ first z
-  first-in = ap (λ (l : List ℕ). getD l 2 0) cells
+  first-in = in-words place-of .begins
 
   offset-in : offsetAt r (firstByteAt ws k) (beforeAt ws k) ≡ offsetIn r z
-  offset-in = rw (first-in, before-chunk ws k z place-of)
+  offset-in = offset-chunk ws k z place-of r
 
   -- ---- what fits
 

@@ -25,7 +25,7 @@ use Rattle.block.specs.Calls.{leaves}
 use Rattle.block.specs.Placing.{Given, given, allocateOn}
 use Rattle.block.specs.Looked.{TableWords, sound-answered}
 use Rattle.block.specs.Outcomes.{told-refused, outcome-accepted}
-use Rattle.block.specs.SlotsOnWords.{InSlot, table-known, spot-stands, slot-holds, every-chunk}
+use Rattle.block.specs.SlotsOnWords.{Standing, table-known, spot-stands, slot-holds, every-chunk}
 
 -- the bytes of the chunk in slot k, as Vulkan's rule takes them
 abbrev pub bytesAt : List ℕ → ℕ → Resource
@@ -99,7 +99,7 @@ module _ (ws : List ℕ) (t : TableWords ws) (s : Sound ws) (r : Request) where
       let K : Resource → Type 0 = (λ B. Keeps (r .granularity) (bytesOf r o) B) in
       (λ f. subst K e (f (λ q. omega (arith, i .used .0 .0))), λ h n. subst K (sym e) h)
 
-  module _ (z : Spot) (k : ℕ) (i : InSlot ws z k) where
+  module _ (z : Spot) (k : ℕ) (i : Standing ws z k) where
     -- There is room at an offset in a slot exactly when there is in its chunk.
     pub room-words : (o : ℕ) → RoomAt r ws k o ↔ Room r (blockOf ws) z o
     room-words o =
@@ -135,7 +135,7 @@ module _ (ws : List ℕ) (t : TableWords ws) (s : Sound ws) (r : Request) where
   )
 
   -- And the best place in the words is the best place in the block.
-  pub best-words : (z : Spot) (k o : ℕ) → InSlot ws z k → BestAt r ws k o ↔ Lowest (Room r (blockOf ws)) z o
+  pub best-words : (z : Spot) (k o : ℕ) → Standing ws z k → BestAt r ws k o ↔ Lowest (Room r (blockOf ws)) z o
   best-words z k o i = (
     λ h. record {
       room = room-words z k i o .0 (h .room);
@@ -260,7 +260,7 @@ room-accepted r h ws g e =
     let k : Taken r b p = put-best r h b sound p (a .2 .1) in
     let z = k .spot in
     let m = k .best .room in
-    let i : InSlot ws z (z .chunk .slot) = spot-stands ws t s z (m .cut) in
+    let i : Standing ws z (z .chunk .slot) = spot-stands ws t s z (m .cut) in
     let last =
     placed-cases r b sound p (a .2 .1) (λ q. (q .block .next ≡ b .next) ⊎ (b .next ≢ 18446744073709551615))
     (λ y j w. inl refl) (λ y j l n u. inr n) in

@@ -2,29 +2,27 @@
 use Prim.Native.Nat.{ℕ, _+_, _≤_}
 use native.Mathlib.Omega.{arith}
 use mathlib.Core.Bool.{true}
-use mathlib.Core.List.{List, [], _∷_, reverseAux, List·Memᴰ}
-use mathlib.Core.Logic.{_↔_, _≢_, ⊎-elim}
+use mathlib.Core.List.{List, [], _∷_, List·Memᴰ}
+use mathlib.Core.Logic.{_↔_, _≢_}
 use mathlib.Core.Path.{_≡_, refl, sym, ap, subst, _∙_}
-use lib.ListN.{length, getD}
-use Rattle.laws.specs.Every.{cases}
+use lib.ListN.{length}
 use Rattle.laws.specs.Lists.{All, Pairwise}
-use Rattle.laws.specs.Members.{has, has-none, has-cases}
 use Rattle.laws.specs.Powers.{Pow2}
 use Rattle.laws.specs.Reply.{Reply, accepted, refused, not-refused}
 use Rattle.model.specs.Apart.{Coarse, AllCoarse, Apart, Stands, ranges-apart, ranges-within, live-chunk, live-range}
-use Rattle.model.specs.Block.{Chunk, Block, Spot, first}
+use Rattle.model.specs.Block.{Block, Spot}
 use Rattle.model.specs.Choose.{Cut}
 use Rattle.model.specs.Placing.{Placed, place}
 use Rattle.model.specs.Runs.{Call, Range, State, step, run, begin}
 use Rattle.model.specs.Runs.Call.{allocate, free, renameTo}
 use Rattle.model.specs.Soundness.{Sound as SoundBlock}
-use Rattle.table.specs.Layout.{slotCount, blockSize, idAt, sizeAt, firstByteAt, kindAt, row}
-use Rattle.words.specs.Words.{slotOf, rowOf, slotsOf, encode}
+use Rattle.table.specs.Layout.{slotCount, blockSize, idAt, sizeAt, firstByteAt, kindAt}
+use Rattle.words.specs.Words.{encode, sound}
 use Rattle.words.specs.Soundness.{Used, Sound}
-use Rattle.words.specs.Laid.{sound-laid}
-use Rattle.words.specs.Linked.{rowAt-none}
-use Rattle.words.specs.Rows.{encode-slots, encode-head, encode-row}
-use Rattle.words.specs.Spots.{spot-slot, spot-row}
+use Rattle.words.specs.Laid.{sound-laid, block-back}
+use Rattle.words.specs.Rows.{encode-head}
+use Rattle.words.specs.Spots.{InSlot, in-words, written-spot, used-spot, spot-used}
+use Rattle.words.specs.Written.{decode-encode, decode-table}
 use Rattle.block.specs.Calls.{leaves}
 use Rattle.block.specs.Creation.{newOn}
 use Rattle.block.specs.Placing.{Given, given, allocateOn}
@@ -86,49 +84,33 @@ pub record StandsIn (ws : List ℕ) (k : ℕ) (x : Range) : Type 0 where
   pub to : x .offset + x .size ≡ firstByteAt ws k + sizeAt ws k
   pub some : 1 ≤ x .size
 
--- a slot that a chunk is in has a spot
-slot-spot : (k : ℕ) (left cs : List Chunk) → has k (slotsOf cs) ≡ true
-    → (z : Spot) × Cut (reverseAux left cs) z × (z .chunk .slot ≡ k)
-slot-spot k left [] t = absurd (has-none k t)
-slot-spot k left (c ∷ cs) t =
-    ⊎-elim (λ e. (record { left = left; chunk = c; right = cs }, refl, e)) (slot-spot k (c ∷ left) cs)
-    (has-cases k (c .slot) (slotsOf cs) t)
-
 module _ (b : Block) (h : SoundBlock b) where
-  -- the words of a chunk's slot, one by one
-  module _ (z : Spot) (cut : Cut (b .chunks) z) (k : ℕ) (at-k : z .chunk .slot ≡ k) where
-    words-of : row (encode b) k ≡ rowOf (slotOf (z .left)) (first z) (slotOf (z .right)) (z .chunk)
-    words-of = ap (row (encode b)) (sym at-k) ∙ spot-row b (sound-laid b h) z cut
+  written-sound : sound (encode b) ≡ true
+  written-sound = decode-table (encode b) b (decode-encode b h) .1
 
-    kind-of : kindAt (encode b) k ≡ z .chunk .kind
-    kind-of = ap (λ (r : List ℕ). getD r 3 0) words-of
+  -- a range that stands in the chunk stands in its slot
+  stands-slot : (k : ℕ) (z : Spot) → InSlot (encode b) k z → z .chunk .kind ≢ 0 → (x : Range) → Stands x z
+      → StandsIn (encode b) k x
+  stands-slot k z i n x s =
+      let r = in-words i in
+      record {
+        used = spot-used (encode b) written-sound k z i;
+        live = λ q. n (sym (r .kind) ∙ q);
+        id = s .id ∙ sym (r .id);
+        kind = s .kind ∙ sym (r .kind);
+        from = omega (arith, s .from, r .begins);
+        to = omega (arith, s .to, r .begins, r .size);
+        some = s .some;
+      }
 
-    -- a range that stands in the chunk stands in the slot
-    stands-slot : z .chunk .kind ≢ 0 → (x : Range) → Stands x z → StandsIn (encode b) k x
-    stands-slot n x s =
-        let p = spot-slot b (sound-laid b h) z cut in
-        let slots = encode-slots b in
-        let id : idAt (encode b) k ≡ z .chunk .id = ap (λ (r : List ℕ). getD r 0 0) words-of in
-        let size : sizeAt (encode b) k ≡ z .chunk .size = ap (λ (r : List ℕ). getD r 1 0) words-of in
-        let begins : firstByteAt (encode b) k ≡ first z = ap (λ (r : List ℕ). getD r 2 0) words-of in
-        record {
-          used = ((omega arith, omega arith), λ q. n (sym kind-of ∙ ap (λ (r : List ℕ). getD r 3 0) q));
-          live = λ q. n (sym kind-of ∙ q);
-          id = s .id ∙ sym id;
-          kind = s .kind ∙ sym kind-of;
-          from = omega (arith, s .from);
-          to = omega (arith, s .to);
-          some = s .some;
-        }
+  -- each chunk is in its slot, and a used slot is a chunk's
+  chunk-slot : (z : Spot) → Cut (b .chunks) z → InSlot (encode b) (z .chunk .slot) z
+  chunk-slot z cut = written-spot b (sound-laid b h) (encode b) refl z cut (z .chunk .slot) refl
 
-  -- a used slot is a chunk's
-  used-spot : (k : ℕ) → Used (encode b) k → (z : Spot) × Cut (b .chunks) z × (z .chunk .slot ≡ k)
-  used-spot k u =
-      ⊎-elim (slot-spot k [] (b .chunks))
-      (λ f.
-      absurd (u .1
-      (encode-row b k (u .0 .0) (rw (encode-slots b) at (u .0 .1)) ∙ rowAt-none 0 0 (b .chunks) k f)))
-      (cases (has k (slotsOf (b .chunks))))
+  slot-chunk : (k : ℕ) → Used (encode b) k → (z : Spot) × Cut (b .chunks) z × InSlot (encode b) k z
+  slot-chunk k u =
+      let f = used-spot (encode b) written-sound k u in
+      (f .0, rw (block-back b (sound-laid b h)) at (f .1 .cut), f .1)
 
 -- the ranges are those of the live slots: each stands in one, and in each stands one
 pub record LiveSlots (s : WordsState) : Type 0 where
@@ -182,14 +164,14 @@ module _ (ws : List ℕ) (size : ℕ) (ok : newOn ws size .0 ≡ accepted tt) (c
         slot = λ x m.
             let l = live-range size (slotCount ws) (s .size .0) (s .size .1) (s .slots .0) (s .slots .1) cs x m in
             let z : Spot = l .0 in
-            (z .chunk .slot, stands-slot b h z (l .1) (z .chunk .slot) refl (l .2) x (l .3));
+            (z .chunk .slot, stands-slot b h (z .chunk .slot) z (chunk-slot b h z (l .1)) (l .2) x (l .3));
         range = λ k u n.
-            let f = used-spot b h k u in
+            let f = slot-chunk b h k u in
             let z : Spot = f .0 in
-            let live : z .chunk .kind ≢ 0 = (λ q. n (kind-of b h z (f .1) k (f .2) ∙ q)) in
+            let live : z .chunk .kind ≢ 0 = (λ q. n (in-words (f .2) .kind ∙ q)) in
             let l =
             live-chunk size (slotCount ws) (s .size .0) (s .size .1) (s .slots .0) (s .slots .1) cs z (f .1) live in
-            (l .0, l .1, stands-slot b h z (f .1) k (f .2) live (l .0) (l .2));
+            (l .0, l .1, stands-slot b h k z (f .2) live (l .0) (l .2));
       }
 
   -- These words are sound, as many as before, and say the same block size.

@@ -1,32 +1,26 @@
 -- The chunks of the block that a sound table holds, by slot. Assumes nothing.
-use Prim.Native.Nat.{ℕ, _≤_, _<_}
-use native.Mathlib.Omega.{arith}
+use Prim.Native.Nat.{ℕ, _≤_}
 use mathlib.Core.Bool.{true}
-use mathlib.Core.List.{List, [], _∷_, reverseAux}
+use mathlib.Core.List.{List, [], _∷_}
 use mathlib.Core.List.List·Memᴰ.{List·Memᴰ·head}
-use mathlib.Core.Logic.{_↔_, ⊎-elim}
-use mathlib.Core.Path.{_≡_, refl, sym, ap, _∙_}
-use lib.ListN.{getD}
-use Rattle.laws.specs.Cuts.{cut-all, from-right}
-use Rattle.laws.specs.Every.{cases}
+use mathlib.Core.Logic.{_↔_}
+use mathlib.Core.Path.{_≡_, refl, sym, _∙_}
+use Rattle.laws.specs.Cuts.{from-right}
 use Rattle.laws.specs.Lists.{All, all-at}
-use Rattle.laws.specs.Members.{has, has-none, has-cases}
-use Rattle.model.specs.Block.{Chunk, Block, Spot, first}
+use Rattle.model.specs.Block.{Chunk, Spot, first}
 use Rattle.model.specs.Choose.{Cut, cut-of-spot, spot-of-cut, all-spots}
 use Rattle.model.specs.NoneLive.{NoneLive}
 use Rattle.model.specs.Slots.{Used as UsedBy}
-use Rattle.table.specs.Layout.{Slot, idAt, sizeAt, firstByteAt, kindAt, nextAt, previousAt, row}
-use Rattle.words.specs.Words.{slotOf, rowOf, blockOf, slotsOf}
+use Rattle.table.specs.Layout.{Slot, idAt, sizeAt, firstByteAt, kindAt, nextAt, previousAt}
+use Rattle.words.specs.Words.{slotOf, blockOf, sound}
 use Rattle.words.specs.Soundness.{Used, Sound}
-use Rattle.words.specs.Linked.{rowAt-none}
 use Rattle.words.specs.Written.{Known, known}
 use Rattle.words.specs.Checked.{sound-exactly}
-use Rattle.words.specs.Laid.{sound-laid}
-use Rattle.words.specs.Spots.{spot-slot, spot-row}
+use Rattle.words.specs.Spots.{InSlot, sound-spot, in-words, used-spot, spot-used}
 use Rattle.block.specs.Looked.{TableWords, table-exactly}
 
 -- the chunk of z, with its neighbours, stands in slot k
-pub record InSlot (ws : List ℕ) (z : Spot) (k : ℕ) : Type 0 where
+pub record Standing (ws : List ℕ) (z : Spot) (k : ℕ) : Type 0 where
   pub cut : Cut (blockOf ws .chunks) z
   pub slot : z .chunk .slot ≡ k
   pub used : Used ws k
@@ -37,55 +31,39 @@ pub record InSlot (ws : List ℕ) (z : Spot) (k : ℕ) : Type 0 where
   pub next : nextAt ws k ≡ slotOf (z .right)
   pub previous : previousAt ws k ≡ slotOf (z .left)
 
--- one of the chunks is in slot k
-spot-in : (k : ℕ) (left cs : List Chunk) → has k (slotsOf cs) ≡ true
-    → (z : Spot) × Cut (reverseAux left cs) z × (z .chunk .slot ≡ k)
-spot-in k left [] t = absurd (has-none k t)
-spot-in k left (c ∷ cs) t =
-    ⊎-elim (λ e. (record { left = left; chunk = c; right = cs }, refl, e)) (spot-in k (c ∷ left) cs)
-    (has-cases k (c .slot) (slotsOf cs) t)
-
 module _ (ws : List ℕ) (t : TableWords ws) (s : Sound ws) where
+  is-sound : sound ws ≡ true
+  is-sound = sound-exactly ws (table-exactly ws .1 t) .1 s
+
   -- What is known of such words.
   pub table-known : Known ws
-  table-known = known ws (sound-exactly ws (table-exactly ws .1 t) .1 s)
+  table-known = known ws is-sound
 
-  -- Each chunk stands in its slot.
-  pub spot-stands : (z : Spot) → Cut (blockOf ws .chunks) z → InSlot ws z (z .chunk .slot)
-  unfolding blockOf
-  spot-stands z cut =
-      let b : Block = blockOf ws in
-      let h = table-known .block in
-      let k : ℕ = z .chunk .slot in
-      let e : row ws k ≡ rowOf (slotOf (z .left)) (first z) (slotOf (z .right)) (z .chunk) =
-      ap (λ (l : List ℕ). row l k) (sym (table-known .words)) ∙ spot-row b (sound-laid b h) z cut in
-      let i : (1 ≤ z .chunk .id) × (z .chunk .id < b .next) =
-      cut-all (λ c. (1 ≤ c .id) × (c .id < b .next)) (z .left) (z .chunk ∷ z .right) .0 (rw cut (h .ids)) .1 .0 in
+  stands : (z : Spot) (k : ℕ) → InSlot ws k z → Standing ws z k
+  stands z k h =
+      let r = in-words h in
       record {
-        cut = cut;
-        slot = refl;
-        used = (
-          spot-slot b (sound-laid b h) z cut,
-          λ q. let n : z .chunk .id ≡ 0 = ap (λ (l : List ℕ). getD l 0 0) (sym e ∙ q) in omega arith,
-        );
-        id = ap (λ (l : List ℕ). getD l 0 0) e;
-        size = ap (λ (l : List ℕ). getD l 1 0) e;
-        first = ap (λ (l : List ℕ). getD l 2 0) e;
-        kind = ap (λ (l : List ℕ). getD l 3 0) e;
-        next = ap (λ (l : List ℕ). getD l 5 0) e;
-        previous = ap (λ (l : List ℕ). getD l 6 0) e;
+        cut = h .cut;
+        slot = h .slot;
+        used = spot-used ws is-sound k z h;
+        id = r .id;
+        size = r .size;
+        first = r .begins;
+        kind = r .kind;
+        next = r .next;
+        previous = r .previous;
       }
 
+  -- Each chunk stands in its slot.
+  pub spot-stands : (z : Spot) → Cut (blockOf ws .chunks) z → Standing ws z (z .chunk .slot)
+  spot-stands z cut = stands z (z .chunk .slot) (sound-spot ws is-sound z cut)
+
   -- And each used slot has a chunk that stands there.
-  pub slot-holds : (k : ℕ) → Used ws k → (z : Spot) × InSlot ws z k
-  unfolding blockOf
-  slot-holds k u =
-      ⊎-elim (λ h. let p = spot-in k [] _ h in (p .0, rw (p .2) at (spot-stands (p .0) (p .1))))
-      (λ f. absurd (u .1 (table-known .rows k (u .0 .0) (u .0 .1) ∙ rowAt-none 0 0 _ k f)))
-      (cases (has k (slotsOf (blockOf ws .chunks))))
+  pub slot-holds : (k : ℕ) → Used ws k → (z : Spot) × Standing ws z k
+  slot-holds k u = let p = used-spot ws is-sound k u in (p .0, stands (p .0) k (p .1))
 
   -- What holds of every used slot's chunk holds of every chunk, and the other way round.
-  pub every-chunk : (P : Chunk → Type 0) → ((z : Spot) (k : ℕ) → InSlot ws z k → P (z .chunk)) ↔ All P (blockOf ws .chunks)
+  pub every-chunk : (P : Chunk → Type 0) → ((z : Spot) (k : ℕ) → Standing ws z k → P (z .chunk)) ↔ All P (blockOf ws .chunks)
   every-chunk P =
       let cs = blockOf ws .chunks in
       let a = all-spots P [] cs in (

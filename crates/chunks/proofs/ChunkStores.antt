@@ -14,9 +14,8 @@ use Rattle.model.specs.GivingBack.{grown, relabel}
 use Rattle.table.specs.Layout.{Slot, allocatedWord, sizeAt, at}
 use Rattle.table.specs.Stores.{OnlySlot, nothing, stored, row-head-set}
 use Rattle.words.specs.Words.{slotOf, rowOf, encode, blockOf}
-use Rattle.words.specs.Spots.{InSlot, in-table, in-row}
+use Rattle.words.specs.Spots.{InSlot, in-table, in-row, in-words}
 use Rattle.chunks.specs.Premises.{FreeIn, LiveIn}
-use Rattle.chunks.specs.Sides.{size-of-chunk}
 use Rattle.chunks.specs.ReplacedWords.{replaced-written}
 use Rattle.chunks.specs.Steps.{madeLive, relabelled, takenWhole, setFree}
 
@@ -58,7 +57,7 @@ take-words ws k kind label z h live =
     let v = allocatedWord ws + sizeAt ws k in
     let d = madeLive kind label (z .chunk) in
     let e : v + liveSize (z .chunk) ≡ allocatedWord ws + liveSize d =
-    omega (arith, free-bytes (z .chunk) (h .free), all-bytes d live, size-of-chunk (h .place)) in
+    omega (arith, free-bytes (z .chunk) (h .free), all-bytes d live, in-words (h .place) .size) in
     replaced-written (h .place) d v (made ws k v kind label) refl refl e (made-row ws k v kind label z (h .place))
 
 -- The live chunk becomes free.
@@ -69,7 +68,7 @@ free-words ws k z h l =
     let v = allocatedWord ws - sizeAt ws k in
     let c = z .chunk in
     let e : v + liveSize c ≡ allocatedWord ws + liveSize (grown c 0) =
-    omega (arith, all-bytes c (h .live), free-bytes (grown c 0) refl, size-of-chunk (h .place)) in
+    omega (arith, all-bytes c (h .live), free-bytes (grown c 0) refl, in-words (h .place) .size) in
     let s : c .size ≡ c .size + 0 = sym (add-zero (c .size)) in
     replaced-written (h .place) (grown c 0) v (made ws k v 0 0) refl s e
     (subst (OnlySlot (set ws 1 v) (made ws k v 0 0) k)

@@ -21,9 +21,9 @@ use Rattle.words.specs.Words.{slotOf, rowAt, encode, blockOf, slotsOf}
 use Rattle.words.specs.Linked.{rowAt-there, rowAt-none}
 use Rattle.words.specs.Laid.{Laid}
 use Rattle.words.specs.Rows.{written}
-use Rattle.words.specs.Spots.{rowAt-right, slot-unused, InSlot, in-table, in-row}
+use Rattle.words.specs.Spots.{rowAt-right, slot-unused, InSlot, in-table, in-row, in-words, after-in}
 use Rattle.chunks.specs.Premises.{TwoFree}
-use Rattle.chunks.specs.Sides.{row-at-cut, row-on-left, row-far-right, first-kept, first-other, left-apart, right-apart, next-slot, next-within, next-other, row-of-table, allocated-of-table, first-of-table, length-of-table}
+use Rattle.chunks.specs.Sides.{row-at-cut, row-on-left, row-far-right, first-kept, first-other, left-apart, right-apart, next-within, next-other, row-of-table, allocated-of-table, first-of-table, length-of-table}
 use Rattle.chunks.specs.Steps.{setFree, joined}
 
 -- ---- the two chunks in the table
@@ -31,15 +31,14 @@ use Rattle.chunks.specs.Steps.{setFree, joined}
 module _ {ws : List ℕ} {k : ℕ} {left : List Chunk} {c d : Chunk} {right : List Chunk} (h : TwoFree ws k left c d right) where
   -- The slot after the chunk is that of the chunk that it takes in.
   pub taken-place : InSlot ws (nextAt ws k) (record { left = c ∷ left; chunk = d; right = right })
-  taken-place =
-      record { words = h .place .words; laid = h .place .laid; cut = h .place .cut; slot = sym (next-slot (h .place)) }
+  taken-place = after-in (h .place)
 
   pub taken-slot : Slot ws (nextAt ws k)
   taken-slot = in-table ws (nextAt ws k) _ taken-place
 
   -- The slot after both is one of the table's or 0, and no slot of the two.
   pub after-slot : nextAt ws (nextAt ws k) ≡ slotOf right
-  after-slot = next-slot taken-place
+  after-slot = in-words taken-place .next
 
   pub after-within : nextAt ws (nextAt ws k) ≤ slotCount ws
   after-within = next-within taken-place
@@ -146,7 +145,7 @@ module _ {ws ws′ : List ℕ} {k : ℕ} {left : List Chunk} {c d : Chunk} where
       rw e (after-row right h j (λ (q : nextAt ws (nextAt ws k) ≡ 0). omega (arith, s .0))))
       (λ m.
       j .others i s f g m ∙ row-of-table (h .place) i s
-      ∙ other-row left c d right i (λ x. f (sym x ∙ h .place .slot)) (λ x. g (sym x ∙ sym (next-slot (h .place))))
+      ∙ other-row left c d right i (λ x. f (sym x ∙ h .place .slot)) (λ x. g (sym x ∙ sym (in-words (h .place) .next)))
       (λ x. m (sym x ∙ sym (after-slot h))))
       (eq-or-not i (nextAt ws (nextAt ws k))))
       (eq-or-not i (nextAt ws k)))

@@ -5,7 +5,7 @@ use mathlib.Core.Bool.{true, false}
 use mathlib.Core.List.{List, [], _∷_, reverseAux}
 use mathlib.Core.Logic.{_≢_, ⊎-elim}
 use mathlib.Core.Path.{_≡_, refl, sym, ap, _∙_}
-use lib.ListN.{length, getD}
+use lib.ListN.{length}
 use Rattle.laws.specs.Cuts.{cut-all, cut-pairs}
 use Rattle.laws.specs.Every.{cases}
 use Rattle.laws.specs.Lists.{All, Pairwise, all-map}
@@ -13,11 +13,11 @@ use Rattle.laws.specs.Members.{has, has-none, has-cases, has-other}
 use Rattle.model.specs.Block.{Chunk, Spot, total, allocated}
 use Rattle.model.specs.Effects.{chunksOf}
 use Rattle.model.specs.Soundness.{DifferentSlots}
-use Rattle.table.specs.Layout.{wordCount, slotCount, Slot, allocatedWord, firstSlot, sizeAt, nextAt, previousAt, row}
+use Rattle.table.specs.Layout.{wordCount, slotCount, Slot, allocatedWord, firstSlot, nextAt, previousAt, row}
 use Rattle.words.specs.Words.{slotOf, rowOf, rowAt, blockOf, slotsOf}
 use Rattle.words.specs.Linked.{rowAt-here, rowAt-there}
 use Rattle.words.specs.Rows.{encode-length, encode-head, encode-row}
-use Rattle.words.specs.Spots.{rowAt-right, spot-left, InSlot, in-table, in-row}
+use Rattle.words.specs.Spots.{rowAt-right, spot-left, InSlot, in-table, in-words}
 
 -- ---- the left side
 
@@ -109,30 +109,19 @@ module _ {ws : List ℕ} {k : ℕ} {z : Spot} (h : InSlot ws k z) where
       let q = cut-all (λ (c : Chunk). Slot ws (c .slot)) (z .left) (z .chunk ∷ z .right) .0 p in
       (q .0, q .1 .1)
 
-  -- The size is the chunk's.
-  pub size-of-chunk : sizeAt ws k ≡ z .chunk .size
-  size-of-chunk = ap (λ (l : List ℕ). getD l 1 0) (in-row ws k z h)
-
-  -- "previous" and "next" are the slots of the neighbours.
-  pub previous-slot : previousAt ws k ≡ slotOf (z .left)
-  previous-slot = ap (λ (l : List ℕ). getD l 6 0) (in-row ws k z h)
-
-  pub next-slot : nextAt ws k ≡ slotOf (z .right)
-  next-slot = ap (λ (l : List ℕ). getD l 5 0) (in-row ws k z h)
-
-  -- They are slots of the table or 0.
+  -- "previous" and "next" are slots of the table or 0.
   pub previous-within : previousAt ws k ≤ slotCount ws
-  previous-within = rw previous-slot (first-within (slotCount ws) (z .left) (sides-within .0))
+  previous-within = rw (in-words h .previous) (first-within (slotCount ws) (z .left) (sides-within .0))
 
   pub next-within : nextAt ws k ≤ slotCount ws
-  next-within = rw next-slot (first-within (slotCount ws) (z .right) (sides-within .1))
+  next-within = rw (in-words h .next) (first-within (slotCount ws) (z .right) (sides-within .1))
 
   -- And other slots than the chunk's own.
   pub previous-other : previousAt ws k ≢ k
-  previous-other e = first-other k (z .left) (in-table ws k z h .0) left-apart (sym previous-slot ∙ e)
+  previous-other e = first-other k (z .left) (in-table ws k z h .0) left-apart (sym (in-words h .previous) ∙ e)
 
   pub next-other : nextAt ws k ≢ k
-  next-other e = first-other k (z .right) (in-table ws k z h .0) right-apart (sym next-slot ∙ e)
+  next-other e = first-other k (z .right) (in-table ws k z h .0) right-apart (sym (in-words h .next) ∙ e)
 
   -- The words of every slot are as the chunks say.
   pub row-of-table : (i : ℕ) → Slot ws i → row ws i ≡ rowAt 0 0 (chunksOf z) i

@@ -19,9 +19,9 @@ use Rattle.table.specs.Layout.{Slot, blockSize, allocatedWord, nextId, firstSlo
 use Rattle.words.specs.Words.{slotOf, rowAt, encode, blockOf, slotsOf}
 use Rattle.words.specs.Linked.{rowAt-there}
 use Rattle.words.specs.Rows.{written}
-use Rattle.words.specs.Spots.{rowAt-right, slot-unused, InSlot, in-row}
+use Rattle.words.specs.Spots.{rowAt-right, slot-unused, InSlot, in-row, in-words, before-in}
 use Rattle.chunks.specs.Premises.{FreeIn, NoneIn}
-use Rattle.chunks.specs.Sides.{row-at-cut, row-far-left, first-kept, first-other, left-apart, sides-within, size-of-chunk, previous-slot, row-of-table, allocated-of-table, first-of-table, length-of-table}
+use Rattle.chunks.specs.Sides.{row-at-cut, row-far-left, first-kept, first-other, left-apart, sides-within, row-of-table, allocated-of-table, first-of-table, length-of-table}
 use Rattle.chunks.specs.Steps.{splitInTwo}
 
 -- ---- the slot of the new chunk
@@ -46,7 +46,7 @@ module _ {ws : List ℕ} {k new : ℕ} {z : Spot} (h : FreeIn ws k z) (u : NoneI
 
   -- nor the one before.
   pub new-not-before : 1 ≤ new → previousAt ws k ≢ new
-  new-not-before l e = first-other new (z .left) l (none-around .0) (sym (previous-slot (h .place)) ∙ e)
+  new-not-before l e = first-other new (z .left) l (none-around .0) (sym (in-words (h .place) .previous) ∙ e)
 
 -- ---- the rows
 
@@ -132,10 +132,9 @@ module _ {ws ws′ : List ℕ} {k new n kind label : ℕ} {c : Chunk} {right : L
   -- the row of the chunk before
   previous-row : (left : List Chunk) → InSlot ws k (record { left = left; chunk = c; right = right }) → previousAt ws k ≢ 0
       → row ws′ (previousAt ws k) ≡ rowAt 0 0 (parted left (pieceIn ws new n kind label) c right) (previousAt ws k)
-  previous-row [] h f = absurd (f (previous-slot h))
+  previous-row [] h f = absurd (f (in-words h .previous))
   previous-row (x ∷ left) h f =
-      let place : InSlot ws (previousAt ws k) (record { left = left; chunk = x; right = c ∷ right }) =
-      record { words = h .words; laid = h .laid; cut = h .cut; slot = sym (previous-slot h) } in
+      let place : InSlot ws (previousAt ws k) (record { left = left; chunk = x; right = c ∷ right }) = before-in h in
       j .before f
       ∙ before-row x left (c ∷ right) ws (previousAt ws k) place (pieceIn ws new n kind label ∷ remainderOf c n ∷ right)
 
@@ -153,7 +152,7 @@ module _ {ws ws′ : List ℕ} {k new n kind label : ℕ} {c : Chunk} {right : L
       (λ m.
       j .others i s f g m ∙ row-of-table (h .place) i s
       ∙ other-row left (pieceIn ws new n kind label) c right i l (λ x. f (sym x ∙ h .place .slot)) (λ x. g (sym x))
-      (λ x. m (sym x ∙ sym (previous-slot (h .place)))))
+      (λ x. m (sym x ∙ sym (in-words (h .place) .previous))))
       (eq-or-not i (previousAt ws k)))
       (eq-or-not i new))
       (eq-or-not i k)
@@ -163,11 +162,11 @@ module _ {ws ws′ : List ℕ} {k new n kind label : ℕ} {c : Chunk} {right : L
   -- the first slot
   first-slot : (left : List Chunk) → InSlot ws k (record { left = left; chunk = c; right = right })
       → firstSlot ws′ ≡ slotOf (parted left (pieceIn ws new n kind label) c right)
-  first-slot [] h = j .new-first (previous-slot h)
+  first-slot [] h = j .new-first (in-words h .previous)
   first-slot (x ∷ left) h =
       let p = pieceIn ws new n kind label in
       let low : 1 ≤ x .slot = sides-within h .0 .0 .0 in
-      j .same-first (λ (e : previousAt ws k ≡ 0). omega (arith, previous-slot h)) ∙ first-of-table h
+      j .same-first (λ (e : previousAt ws k ≡ 0). omega (arith, in-words h .previous)) ∙ first-of-table h
       ∙ first-kept left (x ∷ c ∷ right) (x ∷ p ∷ remainderOf c n ∷ right) refl
 
 -- the live bytes are those of the new chunk more
@@ -186,7 +185,7 @@ pub split-written : {ws ws′ : List ℕ} {k new n kind label : ℕ} {z : Spot} 
     → ws′ ≡ encode (splitInTwo new n kind label z (blockOf ws))
 unfolding splitInTwo blockOf
 split-written {ws} {ws′} {k} {new} {n} {kind} {label} {z} h u l f j =
-    let fits : n ≤ z .chunk .size = rw (← (size-of-chunk (h .place))) l in
+    let fits : n ≤ z .chunk .size = rw (← (in-words (h .place) .size)) l in
     sym
     (written ws′ (splitInTwo new n kind label z (blockOf ws)) (j .count ∙ length-of-table (h .place)) (j .size)
     (j .allocated ∙ ap (λ (a : ℕ). a + n) (allocated-of-table (h .place))

@@ -15,10 +15,10 @@ use Rattle.table.specs.Layout.{isTable, slotCount, Slot, idAt, kindAt}
 use Rattle.words.specs.Words.{blockOf, sound}
 use Rattle.words.specs.Soundness.{Used}
 use Rattle.words.specs.Checked.{sound-exactly}
-use Rattle.words.specs.Spots.{sound-spot, in-table}
+use Rattle.words.specs.Spots.{sound-spot, in-table, in-words, in-all}
 use Rattle.words.specs.Written.{known}
 use Rattle.search.specs.Found.{slotOfSpot}
-use Rattle.search.specs.Held.{in-words, in-all, held-kind}
+use Rattle.search.specs.Held.{held-kind}
 use Rattle.search.specs.Live.{liveSlot, live-chunk}
 use Rattle.search.specs.Scan.{slotWith, LowestWith, lowest-with}
 
@@ -37,9 +37,9 @@ module _ (ws : List ℕ) (t : isTable ws ≡ true) (s : sound ws ≡ true) (id :
   lives z m e =
       let cut = cut-of-spot (blockOf ws .chunks) z m in
       let h = sound-spot ws s z cut in
-      let w = in-words ws (z .chunk .slot) z h in
+      let w = in-words h in
       let l = live-chunk id z e in
-      let i = in-all ws (z .chunk .slot) z h (λ c. (1 ≤ c .id) × (c .id < blockOf ws .next)) (known ws s .block .ids) in
+      let i = in-all h (λ c. (1 ≤ c .id) × (c .id < blockOf ws .next)) (known ws s .block .ids) in
       record {
         place = in-table ws (z .chunk .slot) z h;
         id-word = w .id ∙ l .0;
@@ -99,7 +99,7 @@ module _ (ws : List ℕ) (t : isTable ws ≡ true) (s : sound ws ≡ true) (id :
           go : (o : Option Spot) → Found (isLive id) all o → k ≡ slotOfSpot o
           go none h =
               let y = held-kind ws s k in-range n in
-              let w = in-words ws k (y .0) (y .1) in
+              let w = in-words (y .1) in
               let kind : y .0 .chunk .kind ≢ 0 = (λ e. n (w .kind ∙ e)) in
               absurd (h (y .0) (spot-of-cut (blockOf ws .chunks) (y .0) (y .1 .cut))
               (rw (eq-eqb _ _ (sym (w .id) ∙ with-id), ne-eqb _ _ kind)))

@@ -17,12 +17,12 @@ use Rattle.model.specs.Placing.{Request, takenAt, fitsAt, holds, smaller, best 
 use Rattle.table.specs.Layout.{firstSlot, sizeAt, firstByteAt, kindAt, nextAt}
 use Rattle.words.specs.Words.{slotOf, chunksOf, blockOf, sound}
 use Rattle.words.specs.Linked.{linked-slot}
-use Rattle.words.specs.Spots.{InSlot, sound-spot, in-table}
+use Rattle.words.specs.Spots.{InSlot, sound-spot, in-table, in-words}
 use Rattle.words.specs.Written.{known}
 use Rattle.search.specs.Best.{bestSlot, betterAt}
 use Rattle.search.specs.Fit.{beforeAt, afterAt, before-chunk, after-chunk, next-first}
 use Rattle.search.specs.Found.{slotOfSpot}
-use Rattle.search.specs.Held.{HeldIn, in-words, in-bytes}
+use Rattle.search.specs.Held.{HeldIn, in-bytes}
 
 -- ---- from left to right
 
@@ -85,14 +85,14 @@ module _ (ws : List ℕ) (k : ℕ) (z : Spot) (h : InSlot ws k z) (r : Request) 
 
   same-fit : fitsAt r (firstByteAt ws k) (sizeAt ws k) (beforeAt ws k) (afterAt ws k) ≡ fit
   same-fit =
-      let w = in-words ws k z h in
+      let w = in-words h in
       λ i. fitsAt r (w .begins i) (w .size i) (before-chunk ws k z h i) (after-chunk ws k z h i)
 
   -- a better chunk passes
   better : (least : ℕ) → betterAt ws k least r ≡ true → (holds r z ≡ true) × (z .chunk .size < least)
   unfolding betterAt
   better least e =
-      let w = in-words ws k z h in
+      let w = in-words h in
       let kind : kindAt ws k ≡ 0 = eqb-true _ _ (pass _ 2 e) in
       let size : sizeAt ws k < least = ltb-true _ _ (pass _ 1 e) in
       (both-pass (eq-eqb _ _ (sym (w .kind) ∙ kind)) (sym same-fit ∙ pass _ 3 e), omega (arith, w .size))
@@ -101,7 +101,7 @@ module _ (ws : List ℕ) (k : ℕ) (z : Spot) (h : InSlot ws k z) (r : Request) 
   worse : (least : ℕ) → betterAt ws k least r ≡ false → holds r z ≡ true → least ≤ z .chunk .size
   unfolding betterAt
   worse least e t =
-      let w = in-words ws k z h in
+      let w = in-words h in
       let p = both (isFree (z .chunk)) fit t in
       let size : r .size ≤ z .chunk .size = fit-size r (first z) (z .chunk .size) (chunkBefore z) (chunkAfter z) (p .1) in
       either _ (z .chunk .size) least
@@ -189,7 +189,7 @@ module _ (ws : List ℕ) (s : sound ws ≡ true) (r : Request) (k best spare : �
     right = cs;
     so-far = o;
     whole = w;
-    next = in-words ws k _ (here left cs c w e) .next;
+    next = in-words (here left cs c w e) .next;
     choice = x;
     noted = q;
     word = m;
@@ -221,7 +221,7 @@ module _ (ws : List ℕ) (s : sound ws ≡ true) (r : Request) (k best spare : �
           rw (b .0) (replaced (h .so-far) z (h .noted) (b .1)) in
           let f : size - r .size + r .size ≡ sizeAt ws k = omega (arith, better-size t) in
           let m = in-bytes ws k z i s in
-          on (h .left) cs c w e (some z) k (size - r .size) (e, f ∙ in-words ws k z i .size) (omega arith)
+          on (h .left) cs c w e (some z) k (size - r .size) (e, f ∙ in-words i .size) (omega arith)
           (ap (λ (o : Option Spot). keepBest o (bestOf (holds r) (spots (c ∷ h .left) cs))) (sym a)
           ∙ sym (keep-step (holds r) (h .so-far) z (spots (c ∷ h .left) cs)) ∙ q)
 
@@ -245,7 +245,7 @@ module _ (ws : List ℕ) (s : sound ws ≡ true) (r : Request) (k best spare : �
           let m = in-bytes ws k z i s in
           let a : cond (holds r z) (keepBest (h .so-far) (some z)) (h .so-far) ≡ h .so-far =
           ⊎-elim
-          (λ p. rw p (kept (h .so-far) z (h .noted) (omega (arith, in-words ws k z i .size)) (worse ws k z i r least t p)))
+          (λ p. rw p (kept (h .so-far) z (h .noted) (omega (arith, in-words i .size)) (worse ws k z i r least t p)))
           (λ p. rw p)
           (cases (holds r z)) in
           on (h .left) cs c w e (h .so-far) best spare (h .noted) (h .word)

@@ -14,11 +14,10 @@ use Rattle.model.specs.Choose.{Best, best-spot, cut-of-spot}
 use Rattle.model.specs.Placing.{Request, fitsAt, chunkBefore, chunkAfter, holds, chosen}
 use Rattle.table.specs.Layout.{sizeAt, firstByteAt, kindAt}
 use Rattle.words.specs.Words.{blockOf, sound}
-use Rattle.words.specs.Spots.{InSlot}
+use Rattle.words.specs.Spots.{InSlot, in-all}
 use Rattle.words.specs.Written.{known}
 use Rattle.search.specs.Fit.{beforeAt, afterAt}
 use Rattle.search.specs.Found.{slotOfSpot, Inside, found-none, found-some}
-use Rattle.search.specs.Held.{in-all}
 
 -- the slot of the chunk that is chosen, 0 where there is none
 unfoldable pub bestSlot : List ℕ → Request → ℕ
@@ -62,5 +61,5 @@ module _ (ws : List ℕ) (s : sound ws ≡ true) (r : Request) where
   best-some n =
       let f = found-some ws s (chosen r (blockOf ws)) here n in
       let k = best-kind (chosen r (blockOf ws)) (best-spot (holds r) (blockOf ws .chunks)) (f .0) (f .1) in
-      let l = in-all ws _ (f .0) (f .2) (λ c. c .kind ≡ 0 → c .label ≡ 0) (known ws s .block .labels) in
+      let l = in-all (f .2) (λ c. c .kind ≡ 0 → c .label ≡ 0) (known ws s .block .labels) in
       (f .0, f .1, f .2, k, l k)

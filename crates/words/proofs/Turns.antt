@@ -2,14 +2,13 @@
 use Prim.Native.Nat.{ℕ, _+_, _-_, _%_, _^_, _≤_, _<_}
 use native.Mathlib.Omega.{arith}
 use native.Mathlib.Nat.{mod-eq-of-lt}
-use mathlib.Core.Bool.{Bool, true, false, not, cond}
+use mathlib.Core.Bool.{Bool, true, false, cond}
 use mathlib.Core.List.{List, [], _∷_}
 use mathlib.Core.Path.{_≡_, refl, sym, _∙_}
 use borrow.Author.Tests.{eqb-true, leb-true, le-leb, lt-leb}
 use lib.Dec.{eqb}
 use lib.ListN.{length}
 use Rattle.laws.specs.Every.{pass, fail, more, none, clash}
-use Rattle.laws.specs.Members.{has}
 use Rattle.laws.specs.Tests.{either}
 use Rattle.model.specs.Block.{liveSize}
 use Rattle.table.specs.Layout.{isTable, table-shape, slotCount, Slot, blockSize, nextId, firstSlot, idAt, sizeAt, firstByteAt, kindAt, nextAt}

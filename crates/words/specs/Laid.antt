@@ -1,7 +1,6 @@
 -- Blocks whose chunks are each in a slot of their own, sound or not: they are read back from what they are written as.
 -- Assumes nothing.
 use Prim.Native.Nat.{ℕ, _≤_}
-use native.Mathlib.Omega.{arith}
 use mathlib.Core.Bool.{true}
 use mathlib.Core.List.{List}
 use mathlib.Core.Path.{_≡_}

@@ -1,5 +1,5 @@
 -- `block::giving_back::find` meets its contract. Assumes nothing.
-use mathlib.Core.Path.{_≡_, sym, _∙_}
+use mathlib.Core.Path.{sym, _∙_}
 use Rattle.block.proofs.Fault.{is-fit}
 use Rattle.block.proofs.Answered.{not-looked, not-found, was-found}
 use borrow.Author.Needs.{needs}

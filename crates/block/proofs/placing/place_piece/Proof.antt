@@ -1,7 +1,6 @@
 -- `block::placing::place_piece` meets its contract. Assumes nothing.
 use Rattle.block.proofs.Placed.{no-id, no-slot, splits, new-unused, piece, kind-live}
 use native.Mathlib.Omega.{arith}
-use mathlib.Core.Path.{sym, _∙_}
 use borrow.Author.Needs.{needs}
 use Rattle.block.proofs.placing.place_piece.Statement.{statement}
 use Rattle.block.proofs.placing.place_piece.Tie as tie
