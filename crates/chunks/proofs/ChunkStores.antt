@@ -2,15 +2,14 @@
 use Prim.Native.Nat.{ℕ, _+_, _-_, _≤_}
 use native.Mathlib.Nat.{add-zero}
 use native.Mathlib.Omega.{arith}
-use mathlib.Core.Bool.{Bool, cond}
 use mathlib.Core.List.{List}
 use mathlib.Core.Logic.{_≢_}
 use mathlib.Core.Path.{_≡_, refl, sym, ap, subst, _∙_}
-use borrow.Author.Tests.{eq-eqb, ne-eqb}
 use lib.ListN.{set, length-set}
 use lib.Seq.{set-getD}
-use Rattle.model.specs.Block.{Chunk, Spot, first, liveSize}
+use Rattle.model.specs.Block.{Spot, first, liveSize}
 use Rattle.model.specs.GivingBack.{grown, relabel}
+use Rattle.model.specs.Totals.{free-size, live-size}
 use Rattle.table.specs.Layout.{Slot, allocatedWord, sizeAt, at}
 use Rattle.table.specs.Stores.{OnlySlot, nothing, stored, row-head-set}
 use Rattle.words.specs.Words.{slotOf, rowOf, encode, blockOf}
@@ -42,13 +41,6 @@ made-row ws k v kind label z h =
     subst (OnlySlot (set ws 1 v) (made ws k v kind label) k)
     (ap (λ (r : List ℕ). set (set r 3 kind) 4 label) (row-head-set ws 1 v k (omega arith) ∙ in-row ws k z h)) o
 
--- a free chunk adds no live bytes, another one all of its bytes
-free-bytes : (c : Chunk) → c .kind ≡ 0 → liveSize c ≡ 0
-free-bytes c e = ap (λ (t : Bool). cond t 0 (c .size)) (eq-eqb (c .kind) 0 e)
-
-all-bytes : (c : Chunk) → c .kind ≢ 0 → liveSize c ≡ c .size
-all-bytes c f = ap (λ (t : Bool). cond t 0 (c .size)) (ne-eqb (c .kind) 0 f)
-
 -- The free chunk becomes live as a whole.
 pub take-words : (ws : List ℕ) (k kind label : ℕ) (z : Spot) → FreeIn ws k z → kind ≢ 0
     → made ws k (allocatedWord ws + sizeAt ws k) kind label ≡ encode (takenWhole kind label z (blockOf ws))
@@ -57,7 +49,7 @@ take-words ws k kind label z h live =
     let v = allocatedWord ws + sizeAt ws k in
     let d = madeLive kind label (z .chunk) in
     let e : v + liveSize (z .chunk) ≡ allocatedWord ws + liveSize d =
-    omega (arith, free-bytes (z .chunk) (h .free), all-bytes d live, in-words (h .place) .size) in
+    omega (arith, free-size (z .chunk) (h .free), live-size d live, in-words (h .place) .size) in
     replaced-written (h .place) d v (made ws k v kind label) refl refl e (made-row ws k v kind label z (h .place))
 
 -- The live chunk becomes free.
@@ -68,7 +60,7 @@ free-words ws k z h l =
     let v = allocatedWord ws - sizeAt ws k in
     let c = z .chunk in
     let e : v + liveSize c ≡ allocatedWord ws + liveSize (grown c 0) =
-    omega (arith, all-bytes c (h .live), free-bytes (grown c 0) refl, in-words (h .place) .size) in
+    omega (arith, live-size c (h .live), free-size (grown c 0) refl, in-words (h .place) .size) in
     let s : c .size ≡ c .size + 0 = sym (add-zero (c .size)) in
     replaced-written (h .place) (grown c 0) v (made ws k v 0 0) refl s e
     (subst (OnlySlot (set ws 1 v) (made ws k v 0 0) k)

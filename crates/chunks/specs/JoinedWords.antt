@@ -1,21 +1,20 @@
 -- Joining two free neighbours, as words: which rows change, and the block that they are then. Assumes nothing.
 use Prim.Native.Nat.{ℕ, _+_, _≤_}
 use native.Mathlib.Omega.{arith}
-use mathlib.Core.Bool.{Bool, cond}
 use mathlib.Core.List.{List, [], _∷_, reverseAux}
 use mathlib.Core.Logic.{_≢_, ⊎-elim}
 use mathlib.Core.Path.{_≡_, refl, sym, ap, _∙_}
-use borrow.Author.Tests.{eq-eqb}
 use lib.ListN.{length, getD}
 use Rattle.laws.specs.Cuts.{cut-all, swap-all, swap-pairs, drop-all, drop-pairs}
 use Rattle.laws.specs.Every.{cases}
 use Rattle.laws.specs.Lists.{All}
 use Rattle.laws.specs.Members.{has, eq-or-not}
-use Rattle.model.specs.Block.{Chunk, Block, Spot, total, liveSize, allocated}
+use Rattle.model.specs.Block.{Chunk, Block, Spot, total, allocated}
 use Rattle.model.specs.Choose.{Cut}
 use Rattle.model.specs.GivingBack.{grown}
 use Rattle.model.specs.Soundness.{DifferentSlots}
 use Rattle.model.specs.Sums.{allocated-cut}
+use Rattle.model.specs.Totals.{free-size}
 use Rattle.table.specs.Layout.{slotCount, Slot, blockSize, allocatedWord, nextId, firstSlot, idAt, sizeAt, firstByteAt, kindAt, labelAt, nextAt, previousAt, row, emptyRow}
 use Rattle.words.specs.Words.{slotOf, rowAt, encode, blockOf, slotsOf}
 use Rattle.words.specs.Linked.{rowAt-there, rowAt-none}
@@ -157,8 +156,8 @@ module _ {ws ws′ : List ℕ} {k : ℕ} {left : List Chunk} {c d : Chunk} where
 live-kept : (left : List Chunk) (c d : Chunk) (right : List Chunk) → c .kind ≡ 0 → d .kind ≡ 0
     → allocated (reverseAux left (c ∷ d ∷ right)) ≡ allocated (merged left c d right)
 live-kept left c d right f g =
-    let p : liveSize c ≡ 0 = ap (λ (t : Bool). cond t 0 (c .size)) (eq-eqb (c .kind) 0 f) in
-    let q : liveSize d ≡ 0 = ap (λ (t : Bool). cond t 0 (d .size)) (eq-eqb (d .kind) 0 g) in
+    let p = free-size c f in
+    let q = free-size d g in
     omega (arith, allocated-cut left (c ∷ d ∷ right), allocated-cut left (grown c (d .size) ∷ right))
 
 -- ---- the words

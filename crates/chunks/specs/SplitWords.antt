@@ -1,20 +1,20 @@
 -- Splitting a free chunk, as words: which rows change, and the block that they are then. Assumes nothing.
 use Prim.Native.Nat.{ℕ, suc, _+_, _-_, _≤_}
 use native.Mathlib.Omega.{arith}
-use mathlib.Core.Bool.{Bool, false, cond}
+use mathlib.Core.Bool.{false}
 use mathlib.Core.List.{List, [], _∷_, reverseAux}
 use mathlib.Core.Logic.{_≢_, ⊎-elim}
 use mathlib.Core.Path.{_≡_, refl, sym, ap, _∙_}
-use borrow.Author.Tests.{eq-eqb, ne-eqb}
 use lib.ListN.{length, getD}
 use Rattle.laws.specs.Cuts.{cut-all}
 use Rattle.laws.specs.Every.{cases}
 use Rattle.laws.specs.Lists.{All}
 use Rattle.laws.specs.Members.{has, not-head, has-other, eq-or-not}
-use Rattle.model.specs.Block.{Chunk, Spot, total, liveSize, allocated}
+use Rattle.model.specs.Block.{Chunk, Spot, total, allocated}
 use Rattle.model.specs.Effects.{chunksOf}
 use Rattle.model.specs.Placing.{remainderOf}
 use Rattle.model.specs.Sums.{allocated-cut}
+use Rattle.model.specs.Totals.{free-size, live-size}
 use Rattle.table.specs.Layout.{Slot, blockSize, allocatedWord, nextId, firstSlot, idAt, sizeAt, firstByteAt, kindAt, labelAt, nextAt, previousAt, row}
 use Rattle.words.specs.Words.{slotOf, rowAt, encode, blockOf, slotsOf}
 use Rattle.words.specs.Linked.{rowAt-there}
@@ -173,8 +173,8 @@ module _ {ws ws′ : List ℕ} {k new n kind label : ℕ} {c : Chunk} {right : L
 live-more : (left : List Chunk) (p c : Chunk) (right : List Chunk) → p .kind ≢ 0 → c .kind ≡ 0
     → allocated (reverseAux left (c ∷ right)) + p .size ≡ allocated (parted left p c right)
 live-more left p c right f g =
-    let q : liveSize p ≡ p .size = ap (λ (t : Bool). cond t 0 (p .size)) (ne-eqb (p .kind) 0 f) in
-    let e : liveSize c ≡ 0 = ap (λ (t : Bool). cond t 0 (c .size)) (eq-eqb (c .kind) 0 g) in
+    let q = live-size p f in
+    let e = free-size c g in
     omega (arith, allocated-cut left (c ∷ right), allocated-cut left (p ∷ remainderOf c (p .size) ∷ right))
 
 -- ---- the words

@@ -22,15 +22,15 @@ pub record Line : Type 0 where
 abbrev pub line : ℕ → ℕ → ℕ → ℕ → Line
 line number offset id allocated = record { number = number; offset = offset; id = id; allocated = allocated }
 
-abbrev placedLine : Block → Reply Placed → Line
+abbrev pub placedLine : Block → Reply Placed → Line
 placedLine b (accepted p) = line 0 (p .offset) (p .id) (allocated (p .block .chunks))
 placedLine b (refused n) = line n 0 0 (allocated (b .chunks))
 
-abbrev changedLine : Block → Reply Block → Line
+abbrev pub changedLine : Block → Reply Block → Line
 changedLine b (accepted c) = line 0 0 0 (allocated (c .chunks))
 changedLine b (refused n) = line n 0 0 (allocated (b .chunks))
 
-abbrev lineOf : Call → Block → Line
+abbrev pub lineOf : Call → Block → Line
 lineOf (allocate r) b = placedLine b (place r b)
 lineOf (free id) b = changedLine b (release id b)
 lineOf (renameTo id label) b = changedLine b (rename id label b)

@@ -1,12 +1,16 @@
 // Reads the recorded lines, a byte at a time, and counts how each comes out.
-use crate::answers::agrees;
+use crate::block_answers::Outcome;
+use crate::block_answers::replayed;
+use crate::pages_answers::agrees;
 
 pub struct Lines {
     // The numbers of the present line, and the place of the one that is being read.
-    pub fields: [u64; 6],
+    pub fields: [u64; 11],
     pub at: usize,
     // A line with a '#' says how the others were made.
     pub comment: bool,
+    // How many words of the store the last block has, 0 where there is none.
+    pub lent: usize,
     pub agree: u64,
     pub differ: u64,
 }
@@ -14,26 +18,27 @@ pub struct Lines {
 impl Lines {
     pub fn new() -> Self {
         Lines {
-            fields: [0; 6],
+            fields: [0; 11],
             at: 0,
             comment: false,
+            lent: 0,
             agree: 0,
             differ: 0,
         }
     }
 
-    pub fn fed_all(self, text: &[u8]) -> Lines {
+    pub fn fed_all(self, text: &[u8], store: &mut [u64]) -> Lines {
         let mut lines = self;
         for i in 0..text.len() {
-            lines = lines.fed(text[i]);
+            lines = lines.fed(text[i], store);
         }
         lines
     }
 
     // The state after one more byte.
-    fn fed(self, byte: u8) -> Lines {
+    fn fed(self, byte: u8, store: &mut [u64]) -> Lines {
         if byte == b'\n' {
-            return self.ended();
+            return self.ended(store);
         }
         if byte == b'#' {
             let mut next = self;
@@ -52,14 +57,14 @@ impl Lines {
     // The state past the last field, where no line agrees.
     fn spoilt(self) -> Lines {
         let mut next = self;
-        next.at = 6;
+        next.at = 11;
         next
     }
 
     fn spaced(self) -> Lines {
         let mut next = self;
         let at = self.at;
-        if at < 6 {
+        if at < 11 {
             next.at = at + 1;
         }
         next
@@ -67,7 +72,7 @@ impl Lines {
 
     fn with_digit(self, digit: u64) -> Lines {
         let at = self.at;
-        if 6 <= at || 9 < digit {
+        if 11 <= at || 9 < digit {
             return self.spoilt();
         }
         let mut next = self;
@@ -80,17 +85,36 @@ impl Lines {
         next
     }
 
+    // What the line comes to: the page functions keep no block.
+    fn replayed(self, store: &mut [u64]) -> Outcome {
+        let fields = self.fields;
+        let at = self.at;
+        let lent = self.lent;
+        if 11 <= at {
+            return Outcome {
+                agrees: false,
+                lent,
+            };
+        }
+        if fields[0] < 5 {
+            let agrees = agrees(fields, at + 1);
+            return Outcome { agrees, lent };
+        }
+        replayed(store, fields, at + 1, lent)
+    }
+
     // The state after a line: counted, unless it is a comment.
-    fn ended(self) -> Lines {
+    fn ended(self, store: &mut [u64]) -> Lines {
         let mut next = Lines::new();
+        next.lent = self.lent;
         next.agree = self.agree;
         next.differ = self.differ;
         if self.comment {
             return next;
         }
-        let at = self.at;
-        let fields = self.fields;
-        if at < 6 && agrees(fields, at + 1) {
+        let outcome = self.replayed(store);
+        next.lent = outcome.lent;
+        if outcome.agrees {
             next.agree = std::num::wrapping_add_u64(self.agree, 1);
         } else {
             next.differ = std::num::wrapping_add_u64(self.differ, 1);

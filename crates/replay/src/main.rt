@@ -1,24 +1,27 @@
-// Replays answers that the Rust gave to the aligning and page functions: standard input has a line for each, and the
-// count of those that agree and of those that do not is written out.
-mod answers;
+// Replays answers that the Rust gave to the page functions and to the calls of free-list blocks: standard input has a line for
+// each, and the count of those that agree and of those that do not is written out.
+mod block_answers;
+mod checksum;
 mod lines;
+mod pages_answers;
 
 use crate::lines::Lines;
 use libc::STDIN_FILENO;
 use libc::STDOUT_FILENO;
 
 // The state after what one read brings.
-fn read_on(lines: Lines) -> Lines {
+fn read_on(lines: Lines, store: &mut [u64]) -> Lines {
     let mut space = io::large_buffer();
     let length = io::read_full(STDIN_FILENO, &mut space);
-    lines.fed_all(&space[..length])
+    lines.fed_all(&space[..length], store)
 }
 
 // A proved loop has to end: 64 reads bring 4 MiB, and a line past that would be missing from the count.
 fn read_all() -> Lines {
+    let mut store: [u64; 3588] = [0; 3588];
     let mut lines = Lines::new();
     for _ in 0u64..64 {
-        lines = read_on(lines);
+        lines = read_on(lines, &mut store);
     }
     lines
 }

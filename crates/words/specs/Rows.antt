@@ -9,6 +9,7 @@ use lib.ListN.{length, getD, length-append, List·getD-append}
 use lib.Seq.{ext-getD, getD-append-add}
 use Rattle.model.specs.Block.{Chunk, Block, allocated}
 use Rattle.table.specs.Layout.{wordCount, slotCount, blockSize, allocatedWord, nextId, firstSlot, at, word, row}
+use Rattle.table.specs.Stores.{row-word}
 use Rattle.words.specs.Words.{slotOf, rowOf, rowAt, rows, encode}
 
 -- ---- the words of a written block
@@ -77,16 +78,6 @@ encode-word b k f p q l =
     ∙ ap (λ (i : ℕ). getD (rowAt 0 0 (b .chunks) i) f 0) e
 
 -- ---- words and rows
-
-row-word : (ws : List ℕ) (k f : ℕ) → f < 7 → getD (row ws k) f 0 ≡ word ws k f
-row-word ws k zero l = refl
-row-word ws k (suc zero) l = refl
-row-word ws k (suc (suc zero)) l = refl
-row-word ws k (suc (suc (suc zero))) l = refl
-row-word ws k (suc (suc (suc (suc zero)))) l = refl
-row-word ws k (suc (suc (suc (suc (suc zero))))) l = refl
-row-word ws k (suc (suc (suc (suc (suc (suc zero)))))) l = refl
-row-word ws k (suc (suc (suc (suc (suc (suc (suc f))))))) l = absurd (omega arith)
 
 -- The words of a slot of a written block.
 pub encode-row : (b : Block) (k : ℕ) → 1 ≤ k → k ≤ b .slots → row (encode b) k ≡ rowAt 0 0 (b .chunks) k

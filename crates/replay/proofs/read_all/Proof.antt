@@ -1,20 +1,25 @@
--- `replay::read_all` meets its contract: it ends. Assumes nothing.
+-- `replay::read_all` meets its contract: the store keeps its length, and the loop ends. Assumes nothing.
 use Prim.Native.Nat.{_≤_, _-_}
+use mathlib.Core.Path.{_≡_}
+use lib.ListN.{length}
 use borrow.Author.Needs.{needs}
 use Rattle.replay.proofs.read_all.Statement.{statement}
 use Rattle.replay.proofs.read_all.Tie as tie
 
 abbrev Inv-loop : tie.InvT-loop
-Inv-loop lines₀ counter₀ lines counter = counter ≤ 64
+Inv-loop store₀ lines₀ counter₀ store lines counter = (counter ≤ 64) × (length store ≡ 3588)
 
 abbrev μ-loop : tie.MeasureT-loop
-μ-loop lines₀ counter₀ lines counter = 64 - counter
+μ-loop store₀ lines₀ counter₀ store lines counter = 64 - counter
 
 new-requires : tie.Need-new-requires Inv-loop μ-loop
 new-requires c κs = search needs
 
 loop-holds : tie.Need-loop-holds Inv-loop μ-loop
 loop-holds c = search needs
+
+slice-aggregate-read-on : tie.Need-slice-aggregate-read-on Inv-loop μ-loop
+slice-aggregate-read-on c = search needs
 
 read-on-requires : tie.Need-read-on-requires Inv-loop μ-loop
 read-on-requires c κs = search needs
@@ -39,6 +44,7 @@ read-all-spec =
     μ-loop
     new-requires
     loop-holds
+    slice-aggregate-read-on
     read-on-requires
     add-counter
     loop-less

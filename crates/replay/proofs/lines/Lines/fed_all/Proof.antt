@@ -1,14 +1,16 @@
 -- `replay::lines::Lines::fed_all` meets its contract: it reads no byte past the text, and ends. Assumes nothing.
 use Prim.Native.Nat.{_≤_, _-_}
+use mathlib.Core.Path.{_≡_}
+use lib.ListN.{length}
 use borrow.Author.Needs.{needs}
 use Rattle.replay.proofs.lines.Lines.fed_all.Statement.{statement}
 use Rattle.replay.proofs.lines.Lines.fed_all.Tie as tie
 
 abbrev Inv-loop : tie.InvT-loop
-Inv-loop text lines₀ i₀ i-end lines i = i ≤ i-end
+Inv-loop text store₀ lines₀ i₀ i-end store lines i = (i ≤ i-end) × (length store ≡ length store₀)
 
 abbrev μ-loop : tie.MeasureT-loop
-μ-loop text lines₀ i₀ i-end lines i = i-end - i
+μ-loop text store₀ lines₀ i₀ i-end store lines i = i-end - i
 
 loop-holds : tie.Need-loop-holds Inv-loop μ-loop
 loop-holds c = search needs
@@ -28,6 +30,9 @@ loop-less c = search needs
 loop-again : tie.Need-loop-again Inv-loop μ-loop
 loop-again c = search needs
 
+same-length : tie.Need-same-length Inv-loop μ-loop
+same-length c = search needs
+
 returns : tie.Need-returns Inv-loop μ-loop
 returns c = search needs
 
@@ -43,4 +48,5 @@ fed-all-spec =
     add-i
     loop-less
     loop-again
+    same-length
     returns)

@@ -1,9 +1,9 @@
--- `replay::answers::same_page_agrees` meets its contract. Assumes nothing.
+-- `replay::pages_answers::same_page_agrees` meets its contract. Assumes nothing.
 use borrow.Author.Needs.{needs}
 use Rattle.laws.specs.Tests.{passed}
 use native.Mathlib.Omega.{arith}
-use Rattle.replay.proofs.answers.same_page_agrees.Statement.{statement}
-use Rattle.replay.proofs.answers.same_page_agrees.Tie as tie
+use Rattle.replay.proofs.pages_answers.same_page_agrees.Statement.{statement}
+use Rattle.replay.proofs.pages_answers.same_page_agrees.Tie as tie
 
 is-power-of-two-requires : tie.Need-is-power-of-two-requires
 is-power-of-two-requires c κs = search needs

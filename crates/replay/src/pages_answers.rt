@@ -1,4 +1,4 @@
-// Whether the functions answer as a recorded line says. A line with a range of no bytes, or outside their domain, agrees with
+// Whether the page functions answer as a recorded line says. A line with a range of no bytes, or outside their domain, agrees with
 // nothing.
 
 fn align_down_agrees(val: u64, alignment: u64, answer: u64) -> bool {
@@ -39,7 +39,7 @@ fn same_page_agrees(
 }
 
 // The first of the n fields says which function; the last is its answer.
-pub fn agrees(fields: [u64; 6], n: usize) -> bool {
+pub fn agrees(fields: [u64; 11], n: usize) -> bool {
     let function = fields[0];
     if function == 1 && n == 4 {
         return align_down_agrees(fields[1], fields[2], fields[3]);
