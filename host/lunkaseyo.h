@@ -6,10 +6,10 @@
  * and leaves `buf` and `words` as they were. What an out-value held before the call never matters.
  *
  * Pointers. No pointer may be NULL. Each points to memory of the caller, aligned as its type asks, that is there for the
- * whole call: one value behind `written`, `size`, `allocated` and `is_empty`, four behind `sizes`, `buf_len` bytes behind
- * `buf`, `words_len` words behind `words`. Where `buf_len` or `words_len` is 0 nothing is read or written behind `buf` or
- * `words`, and any pointer that is not NULL will do. Two pointers of one call must not reach the same memory. Nothing is
- * kept after the call, and there is no state: any thread may call at any time.
+ * whole call: one value behind `written`, `size`, `offset`, `id`, `allocated` and `is_empty`, four behind `sizes`,
+ * `buf_len` bytes behind `buf`, `words_len` words behind `words`. Where `buf_len` or `words_len` is 0 nothing is read or
+ * written behind `buf` or `words`, and any pointer that is not NULL will do. Two pointers of one call must not reach the
+ * same memory. Nothing is kept after the call, and there is no state: any thread may call at any time.
  */
 #ifndef LUNKASEYO_H
 #define LUNKASEYO_H
@@ -74,6 +74,28 @@ uint64_t lunkaseyo_sizes_get_memblock_size(uint64_t min_device, uint64_t max_dev
  * 2^40.
  */
 uint64_t lunkaseyo_block_new(uint64_t *words, size_t words_len, uint64_t size);
+
+/*
+ * Hands out `size` bytes for a `kind` of use, 1 linear or 2 non-linear, at an `offset` that is a multiple of `alignment`.
+ * They share no page of `granularity` bytes with a live neighbour of the other kind, and the padding of a neighbour counts as
+ * the neighbour. Of the free chunks that hold the request it is the smallest, of several the one at the lowest address. A
+ * larger chunk is split: its left part, padding before the offset included, becomes a chunk with a new `id` in the lowest
+ * empty slot. One that is just filled keeps its own id and slot.
+ * Refusals: 1, 2, 3 the size is 0, 4 the alignment is not a power of two, 5 the granularity is not, 6 the kind is neither 1
+ * nor 2, 7 no free chunk holds the request, 8 a split is needed and the next id is 2^64 - 1, 9 a split is needed and no
+ * slot is empty.
+ */
+uint64_t lunkaseyo_block_allocate(uint64_t *words, size_t words_len, uint64_t size, uint64_t alignment, uint64_t kind,
+                                  uint64_t granularity, uint64_t label, uint64_t *offset, uint64_t *id);
+
+/*
+ * Gives back the live chunk with this id. Free neighbours are merged into one chunk, which keeps the id and the slot of
+ * the leftmost. Refusals: 1, 2, 10 no live chunk has this id.
+ */
+uint64_t lunkaseyo_block_free(uint64_t *words, size_t words_len, uint64_t id);
+
+/* Gives the live chunk with this id another label. Refusals: 1, 2, 10 no live chunk has this id. */
+uint64_t lunkaseyo_block_rename_allocation(uint64_t *words, size_t words_len, uint64_t id, uint64_t label);
 
 /* The bytes that are allocated, padding included. Refusals: 1, 2. */
 uint64_t lunkaseyo_block_allocated(const uint64_t *words, size_t words_len, uint64_t *allocated);

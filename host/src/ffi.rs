@@ -7,6 +7,9 @@
 /// Block sizes as they cross: minimum and maximum for the device, then both for the host.
 pub type Words = [u64; 4];
 
+/// What a block is asked for, as it crosses: size, alignment, kind, granularity, label.
+pub type Request = [u64; 5];
+
 mod archive {
     use super::Words;
 
@@ -49,6 +52,24 @@ mod archive {
             size: &mut u64,
         ) -> u64;
         pub fn lunkaseyo_block_new(words: *mut u64, words_len: usize, size: u64) -> u64;
+        pub fn lunkaseyo_block_allocate(
+            words: *mut u64,
+            words_len: usize,
+            size: u64,
+            alignment: u64,
+            kind: u64,
+            granularity: u64,
+            label: u64,
+            offset: &mut u64,
+            id: &mut u64,
+        ) -> u64;
+        pub fn lunkaseyo_block_free(words: *mut u64, words_len: usize, id: u64) -> u64;
+        pub fn lunkaseyo_block_rename_allocation(
+            words: *mut u64,
+            words_len: usize,
+            id: u64,
+            label: u64,
+        ) -> u64;
         pub fn lunkaseyo_block_allocated(
             words: *const u64,
             words_len: usize,
@@ -114,6 +135,36 @@ pub fn sizes_get_memblock_size(from: Words, is_host: u64, count: u64, size: &mut
 /// `lunkaseyo_block_new`
 pub fn block_new(words: &mut [u64], size: u64) -> u64 {
     unsafe { archive::lunkaseyo_block_new(words.as_mut_ptr(), words.len(), size) }
+}
+
+/// `lunkaseyo_block_allocate`
+pub fn block_allocate(words: &mut [u64], request: Request, offset: &mut u64, id: &mut u64) -> u64 {
+    let [size, alignment, kind, granularity, label] = request;
+    unsafe {
+        archive::lunkaseyo_block_allocate(
+            words.as_mut_ptr(),
+            words.len(),
+            size,
+            alignment,
+            kind,
+            granularity,
+            label,
+            offset,
+            id,
+        )
+    }
+}
+
+/// `lunkaseyo_block_free`
+pub fn block_free(words: &mut [u64], id: u64) -> u64 {
+    unsafe { archive::lunkaseyo_block_free(words.as_mut_ptr(), words.len(), id) }
+}
+
+/// `lunkaseyo_block_rename_allocation`
+pub fn block_rename_allocation(words: &mut [u64], id: u64, label: u64) -> u64 {
+    unsafe {
+        archive::lunkaseyo_block_rename_allocation(words.as_mut_ptr(), words.len(), id, label)
+    }
 }
 
 /// `lunkaseyo_block_allocated`

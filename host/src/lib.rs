@@ -1,6 +1,7 @@
 //! Memory blocks of a GPU: parts of gpu-allocator, proved in Rattle and called here from safe Rust.
 //!
-//! - [`Block`]: a free-list block, whose table lies in words of the caller.
+//! - [`Block`]: a free-list block, whose table lies in words of the caller. It is asked for memory by a
+//!   [`Request`], and gives an [`Allocation`].
 //! - [`AllocationSizes`]: how large the next memory block is to be.
 //! - [`fmt_bytes`] and [`byte_text`]: an amount of memory as text.
 //!
@@ -26,7 +27,7 @@ mod refusal;
 mod sizes;
 mod text;
 
-pub use block::Block;
+pub use block::{Allocation, Block, Kind, Request};
 pub use refusal::Refusal;
 pub use sizes::AllocationSizes;
 pub use text::{byte_text, fmt_bytes, ByteText};

@@ -1,7 +1,9 @@
 //! The worked examples of blocks, block sizes and byte text, through the safe wrapper. They need no
 //! Rust to compare with.
 
-use lunkaseyo::{byte_text, fmt_bytes, AllocationSizes, Block, Refusal};
+use lunkaseyo::{
+    byte_text, ffi, fmt_bytes, Allocation, AllocationSizes, Block, Kind, Refusal, Request,
+};
 
 const MB: u64 = 1024 * 1024;
 
@@ -192,12 +194,256 @@ fn words_that_are_no_table_are_refusal_2() {
     }
 }
 
+/// A byte for a buffer, anywhere.
+const A_BYTE: Request = Request {
+    size: 1,
+    alignment: 1,
+    kind: Kind::Linear,
+    granularity: 1,
+    label: 0,
+};
+
+#[test]
+fn the_checked_steps() {
+    enum Step {
+        Place(Kind, u64, u64, Allocation),
+        Free(u64),
+    }
+    use Kind::{Linear, NonLinear};
+    use Step::{Free, Place};
+    let at = |offset, id| Allocation { offset, id };
+    let steps = [
+        (Place(Linear, 100, 1, at(0, 2)), 100),
+        // 924 bytes of padding
+        (Place(NonLinear, 256, 64, at(1024, 3)), 1280),
+        (Place(Linear, 16, 16, at(2048, 4)), 2064),
+        (Free(2), 1964),
+        // the hole at 0 meets the padding of id 3
+        (Place(Linear, 16, 1, at(2064, 5)), 1980),
+        (Place(NonLinear, 100, 1, at(0, 2)), 2080),
+        (Free(3), 900),
+        // merged to 0..1280
+        (Free(2), 800),
+    ];
+    let request = |kind, size, alignment| Request {
+        size,
+        alignment,
+        kind,
+        granularity: 1024,
+        label: 0,
+    };
+    let mut words = [0; Block::words(8)];
+    let mut block = Block::new(&mut words, 4096).expect("a table of 8 slots");
+    for (step, allocated) in steps {
+        match step {
+            Place(kind, size, alignment, place) => {
+                let answer = block.allocate(request(kind, size, alignment));
+                assert_eq!(answer, Ok(place));
+            }
+            Free(id) => assert_eq!(block.free(id), Ok(())),
+        }
+        assert_eq!(block.allocated(), Ok(allocated));
+    }
+    let before = block.as_words().to_vec();
+    assert_eq!(number(block.free(2)), 10);
+    assert_eq!(number(block.allocate(request(Linear, 0, 1))), 3);
+    assert_eq!(number(block.allocate(request(Linear, 16, 0))), 4);
+    assert_eq!(number(block.allocate(request(Linear, 16, 3))), 4);
+    assert_eq!(block.as_words(), before);
+}
+
+#[test]
+#[rustfmt::skip]
+fn calls_write_the_table() {
+    let mut words = [0; Block::words(8)];
+    let mut block = Block::new(&mut words, 4096).expect("a table of 8 slots");
+    let buffer = Request { size: 100, granularity: 1024, label: 7, ..A_BYTE };
+    let image = Request { size: 256, alignment: 64, kind: Kind::NonLinear, label: 8, ..buffer };
+    assert_eq!(block.allocate(buffer), Ok(Allocation { offset: 0, id: 2 }));
+    assert_eq!(block.allocate(image), Ok(Allocation { offset: 1024, id: 3 }));
+    assert_eq!(block.as_words(), two_placed());
+
+    assert_eq!(block.rename_allocation(3, u64::MAX), Ok(()));
+    assert_eq!(block.free(2), Ok(()));
+    assert_eq!(block.as_words(), table(&[
+        4096, 1180, 4, 2,
+        1, 2816, 1280, 0, 0, 0, 3,
+        2, 100, 0, 0, 0, 3, 0,
+        3, 1180, 100, 2, u64::MAX, 1, 2,
+    ]));
+
+    // the left id and slot survive, and the others are empty
+    assert_eq!(block.free(3), Ok(()));
+    assert_eq!(block.as_words(), table(&[
+        4096, 0, 4, 2,
+        0, 0, 0, 0, 0, 0, 0,
+        2, 4096, 0, 0, 0, 0, 0,
+    ]));
+
+    // the lowest empty slot is the first to be taken
+    let labelled = Request { label: 1 << 63, ..A_BYTE };
+    assert_eq!(block.allocate(labelled), Ok(Allocation { offset: 0, id: 4 }));
+    assert_eq!(block.as_words(), table(&[
+        4096, 1, 5, 1,
+        4, 1, 0, 1, 1 << 63, 2, 0,
+        2, 4095, 1, 0, 0, 0, 1,
+    ]));
+}
+
+/// Fills the front of a block with linear bytes, and gives every other chunk back, the first among them.
+fn with_holes(block: &mut Block, sizes: &[u64]) {
+    let place = |size: &u64| {
+        let sized = Request {
+            size: *size,
+            ..A_BYTE
+        };
+        block.allocate(sized).expect("there is room").id
+    };
+    let ids: Vec<u64> = sizes.iter().map(place).collect();
+    for &id in ids.iter().step_by(2) {
+        assert_eq!(block.free(id), Ok(()));
+    }
+}
+
+#[test]
+fn the_smallest_chunk_is_taken_and_of_equals_the_lowest() {
+    let mut words = [0; Block::words(8)];
+    let mut block = Block::new(&mut words, 100).expect("a table of 8 slots");
+    with_holes(&mut block, &[30, 1, 10, 1, 10, 1]);
+    let ten = Request { size: 10, ..A_BYTE };
+    for offset in [31, 42, 0] {
+        assert_eq!(block.allocate(ten).map(|place| place.offset), Ok(offset));
+    }
+}
+
+#[test]
+fn the_smallest_chunk_is_so_with_its_padding() {
+    let mut words = [0; Block::words(8)];
+    let mut block = Block::new(&mut words, 100).expect("a table of 8 slots");
+    with_holes(&mut block, &[5, 9, 6, 1]);
+    // it leaves a byte of the 5 at 0, and would leave none of the 6 at 14
+    let aligned = Request {
+        size: 4,
+        alignment: 8,
+        ..A_BYTE
+    };
+    assert_eq!(block.allocate(aligned).map(|place| place.offset), Ok(0));
+}
+
+#[test]
+fn the_last_byte_is_counted_from_the_offset() {
+    let mut words = [0; Block::words(8)];
+    let mut block = Block::new(&mut words, 64).expect("a table of 8 slots");
+    let image = |size, alignment, granularity| Request {
+        size,
+        alignment,
+        kind: Kind::NonLinear,
+        granularity,
+        label: 0,
+    };
+    let buffer = Request { size: 8, ..A_BYTE };
+    for request in [image(1, 1, 1), image(23, 1, 1), buffer] {
+        block.allocate(request).expect("there is room");
+    }
+    // a hole from 1 to 24, and the buffer behind it
+    assert_eq!(block.free(3), Ok(()));
+    // from 8 on, 12 bytes reach the buffer's page, which they would not from 1 on
+    let place = block.allocate(image(12, 8, 16)).map(|place| place.offset);
+    assert_eq!(place, Ok(32));
+}
+
+#[test]
+fn a_block_can_be_filled_at_once() {
+    let mut words = [0; Block::words(8)];
+    let mut block = Block::new(&mut words, 4096).expect("a table of 8 slots");
+    let sized = |size| Request { size, ..A_BYTE };
+    for size in [4097, u64::MAX] {
+        assert_eq!(number(block.allocate(sized(size))), 7);
+    }
+    assert_eq!(
+        block.allocate(sized(4096)),
+        Ok(Allocation { offset: 0, id: 1 })
+    );
+    assert_eq!(number(block.allocate(A_BYTE)), 7);
+}
+
+#[test]
+fn one_slot_cannot_be_split() {
+    let mut words = [0; Block::words(1)];
+    let mut block = Block::new(&mut words, 4096).expect("a table of 1 slot");
+    assert_eq!(number(block.allocate(A_BYTE)), 9);
+    let all = Request {
+        size: 4096,
+        ..A_BYTE
+    };
+    assert_eq!(block.allocate(all), Ok(Allocation { offset: 0, id: 1 }));
+}
+
+#[test]
+fn the_last_id_is_2_64_minus_2() {
+    let mut words = [0; Block::words(2)];
+    Block::new(&mut words, 4096).expect("a table of 2 slots");
+    // by hand, because so many calls would take too long
+    words[2] = u64::MAX - 1;
+    let mut block = Block::over(&mut words);
+    let last = Allocation {
+        offset: 0,
+        id: u64::MAX - 1,
+    };
+    assert_eq!(block.allocate(A_BYTE), Ok(last));
+    // no slot is empty either, and the id is looked at first
+    assert_eq!(number(block.allocate(A_BYTE)), 8);
+    let rest = Request {
+        size: 4095,
+        ..A_BYTE
+    };
+    assert_eq!(block.allocate(rest), Ok(Allocation { offset: 1, id: 1 }));
+}
+
+#[test]
+fn a_kind_is_a_whole_number() {
+    let mut words = two_placed();
+    for (kind, refusal) in [(0, 6), (1, 0), (2, 0), (3, 6), (257, 6), (1 << 32 | 1, 6)] {
+        let (mut offset, mut id) = (5, 5);
+        let request = [16, 1, kind, 1, 0];
+        let number = ffi::block_allocate(&mut words, request, &mut offset, &mut id);
+        assert_eq!(number, refusal, "kind {kind}");
+        assert_eq!(refusal != 0, (offset, id) == (0, 0), "kind {kind}");
+    }
+}
+
+#[test]
+fn only_live_ids_are_known() {
+    let mut words = two_placed();
+    let mut block = Block::over(&mut words);
+    // a free chunk's, none at all, not handed out yet
+    for id in [1, 0, 4, u64::MAX] {
+        assert_eq!(number(block.free(id)), 10, "id {id}");
+        assert_eq!(number(block.rename_allocation(id, 5)), 10, "id {id}");
+    }
+    assert_eq!(words, two_placed());
+}
+
+#[test]
+fn calls_look_at_the_table_first() {
+    for (count, refusal) in [(10, 1), (11, 2)] {
+        let mut words = vec![7; count];
+        let mut block = Block::over(&mut words);
+        let nothing = Request { size: 0, ..A_BYTE };
+        assert_eq!(number(block.allocate(nothing)), refusal);
+        assert_eq!(number(block.free(0)), refusal);
+        assert_eq!(number(block.rename_allocation(0, 0)), refusal);
+        assert!(words.iter().all(|&word| word == 7));
+    }
+}
+
 #[test]
 fn refusals_say_why() {
     let text = fmt_bytes(0, &mut []).unwrap_err();
     let count = Block::new(&mut [], 4096).unwrap_err();
     let size = Block::new(&mut [0; 11], 0).unwrap_err();
     let unsound = Block::over(&mut [0; 11]).is_empty().unwrap_err();
+    let dead = Block::over(&mut two_placed()).free(1).unwrap_err();
     for (refusal, why) in [
         (text, "refusal 16: the buffer is too short for the text"),
         (
@@ -209,6 +455,7 @@ fn refusals_say_why() {
             "refusal 13: the block size is 0, or above 2^40 for a free-list block",
         ),
         (unsound, "refusal 2: the chunk table is not sound"),
+        (dead, "refusal 10: no live chunk has this id"),
     ] {
         assert_eq!(refusal.to_string(), why);
     }

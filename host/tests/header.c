@@ -115,6 +115,89 @@ static void accepted_blocks(void)
     EXPECT(lunkaseyo_block_is_empty(placed, 18, &is_empty) == 0 && is_empty == 0);
 }
 
+static void calls_of_a_block(void)
+{
+    /* two slots: linear 100, renamed; then the rest as non-linear, on a page of its own */
+    const uint64_t placed[18] = {4096, 100, 3, 2, 1, 3996, 100, 0, 0, 0, 2, 2, 100, 0, 1, 8, 1, 0};
+    const uint64_t filled[18] = {4096, 4096, 3, 2, 1, 3996, 100, 2, 9, 0, 2, 2, 100, 0, 1, 8, 1, 0};
+    const uint64_t merged[18] = {4096, 0, 3, 2, 0, 0, 0, 0, 0, 0, 0, 2, 4096, 0, 0, 0, 0, 0};
+    uint64_t words[18], offset, id;
+
+    EXPECT(lunkaseyo_block_new(words, 18, 4096) == 0);
+    spoil(&offset, 1);
+    spoil(&id, 1);
+    EXPECT(lunkaseyo_block_allocate(words, 18, 100, 1, 1, 1024, 7, &offset, &id) == 0 && offset == 0 && id == 2);
+    EXPECT(lunkaseyo_block_rename_allocation(words, 18, 2, 8) == 0);
+    EXPECT(memcmp(words, placed, sizeof placed) == 0);
+
+    spoil(&offset, 1);
+    spoil(&id, 1);
+    EXPECT(lunkaseyo_block_allocate(words, 18, 3072, 64, 2, 1024, 9, &offset, &id) == 0 && offset == 1024 && id == 1);
+    EXPECT(memcmp(words, filled, sizeof filled) == 0);
+
+    EXPECT(lunkaseyo_block_free(words, 18, 2) == 0);
+    EXPECT(lunkaseyo_block_free(words, 18, 1) == 0);
+    EXPECT(memcmp(words, merged, sizeof merged) == 0);
+}
+
+/* The number of a request that is refused, with zeros in its out-values and its words as they were; 0 if it is not so. */
+static uint64_t refused(const uint64_t *table, size_t words_len, uint64_t size, uint64_t alignment, uint64_t kind,
+                        uint64_t granularity)
+{
+    uint64_t words[18], offset, id, number;
+
+    memcpy(words, table, sizeof words);
+    spoil(&offset, 1);
+    spoil(&id, 1);
+    number = lunkaseyo_block_allocate(words, words_len, size, alignment, kind, granularity, 7, &offset, &id);
+    return offset == 0 && id == 0 && memcmp(words, table, sizeof words) == 0 ? number : 0;
+}
+
+static void refused_requests(void)
+{
+    uint64_t fresh[18], last_id[18], one_slot[18], unsound[18];
+
+    EXPECT(lunkaseyo_block_new(fresh, 18, 4096) == 0);
+    memcpy(last_id, fresh, sizeof last_id);
+    last_id[2] = UINT64_MAX;
+    spoil(one_slot, 18);
+    EXPECT(lunkaseyo_block_new(one_slot, 11, 4096) == 0);
+    spoil(unsound, 18);
+
+    /* each with every fault that comes after it */
+    EXPECT(refused(unsound, 17, 0, 3, 257, 3) == 1);
+    EXPECT(refused(unsound, 18, 0, 3, 257, 3) == 2);
+    EXPECT(refused(fresh, 18, 0, 3, 257, 3) == 3);
+    EXPECT(refused(fresh, 18, 4097, 3, 257, 3) == 4);
+    EXPECT(refused(fresh, 18, 4097, 1, 257, 0) == 5);
+    EXPECT(refused(fresh, 18, 4097, 1, 257, 1) == 6);
+    EXPECT(refused(fresh, 18, 4097, 1, 1, 1) == 7);
+    EXPECT(refused(last_id, 18, 1, 1, 1, 1) == 8);
+    EXPECT(refused(one_slot, 11, 1, 1, 1, 1) == 9);
+}
+
+static void refused_ids(void)
+{
+    /* id 1 is a free chunk's */
+    const uint64_t fresh[11] = {4096, 0, 2, 1, 1, 4096, 0, 0, 0, 0, 0};
+    uint64_t words[11], spoilt[11], id;
+
+    memcpy(words, fresh, sizeof words);
+    for (id = 0; id <= 2; id++) {
+        EXPECT(lunkaseyo_block_free(words, 11, id) == 10);
+        EXPECT(lunkaseyo_block_rename_allocation(words, 11, id, 7) == 10);
+    }
+    EXPECT(memcmp(words, fresh, sizeof fresh) == 0);
+
+    spoil(words, 11);
+    spoil(spoilt, 11);
+    EXPECT(lunkaseyo_block_free(words, 10, 0) == 1);
+    EXPECT(lunkaseyo_block_free(words, 11, 0) == 2);
+    EXPECT(lunkaseyo_block_rename_allocation(words, 10, 0, 7) == 1);
+    EXPECT(lunkaseyo_block_rename_allocation(words, 11, 0, 7) == 2);
+    EXPECT(memcmp(words, spoilt, sizeof spoilt) == 0);
+}
+
 static void refused_blocks(void)
 {
     uint64_t words[11], spoilt[11], allocated, is_empty;
@@ -144,5 +227,8 @@ int main(void)
     refused_sizes();
     accepted_blocks();
     refused_blocks();
+    calls_of_a_block();
+    refused_requests();
+    refused_ids();
     return faults;
 }

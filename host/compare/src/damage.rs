@@ -4,6 +4,9 @@ mod one_word;
 mod several_words;
 mod word_count;
 
+use std::iter::Cycle;
+use std::slice::Iter;
+
 use crate::random::Random;
 use crate::reading::Rule;
 use crate::table::{Chunk, Table};
@@ -82,6 +85,22 @@ impl Damage {
             Change::Words(change) => change(table, words.clone(), random)?,
         };
         (spoilt != words).then_some(spoilt)
+    }
+}
+
+/// Damages in turn, over and over.
+pub struct Turns(Cycle<Iter<'static, Damage>>);
+
+impl Turns {
+    /// From the first of them on.
+    pub fn of(damages: &'static [Damage]) -> Self {
+        Self(damages.iter().cycle())
+    }
+
+    /// The words of a sound table with the next damage that it has a place for.
+    pub fn spoil(&mut self, table: &Table, random: &mut Random) -> (&'static Damage, Vec<u64>) {
+        let spoilt = |damage: &'static Damage| Some((damage, damage.spoil(table, random)?));
+        self.0.find_map(spoilt).expect("any table can be damaged")
     }
 }
 

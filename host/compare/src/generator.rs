@@ -1,11 +1,11 @@
-//! Sound tables: those that random calls of the Rust lead to, and the same ones with other slots,
-//! ids and labels, which no calls need lead to.
+//! Sound tables: those that random calls of the Rust lead to, the same ones with other slots, ids and
+//! labels, and any others, which no calls need lead to.
 
 use std::collections::HashSet;
 
 use crate::random::Random;
 use crate::rust::Request;
-use crate::table::{Table, LARGEST_BLOCK, MOST_SLOTS};
+use crate::table::{Chunk, Table, LARGEST_BLOCK, MOST_SLOTS};
 use crate::tracked::{Placed, Tracked};
 
 /// Random calls on one block.
@@ -103,7 +103,8 @@ impl Run {
     }
 }
 
-fn any_slots(random: &mut Random) -> usize {
+/// Any number of slots, most often 1 to 20.
+pub fn any_slots(random: &mut Random) -> usize {
     match random.below(1000) {
         0..=4 => MOST_SLOTS,
         5..=9 => 1 + random.below(MOST_SLOTS as u64) as usize,
@@ -112,11 +113,47 @@ fn any_slots(random: &mut Random) -> usize {
     }
 }
 
-fn any_size(random: &mut Random) -> u64 {
+/// Any size of a block, 1 byte to 2^40.
+pub fn any_size(random: &mut Random) -> u64 {
     let small = 1 + random.below(64);
     let any = 1 + random.up_to_bits(40);
     let power = 1 << random.below(41);
     random.pick(&[small, any, any, power, LARGEST_BLOCK])
+}
+
+/// Chunks of any sizes and kinds, half of them free or fewer, in any slots, under any ids and labels.
+pub fn any_table(random: &mut Random) -> Table {
+    let slots = any_slots(random);
+    // where it is small many chunks are equal
+    let reach = random.pick(&[1, 2, 4, 64, 1 << 20, LARGEST_BLOCK / slots as u64]);
+    let mut chunks: Vec<Chunk> = Vec::new();
+    let mut end = 0;
+    for _ in 0..1 + random.below(slots as u64) {
+        let (size, live) = (1 + random.below(reach), 1 + random.below(2));
+        let is_after_free = chunks.last().map_or(false, Chunk::is_free);
+        chunks.push(Chunk {
+            slot: 0,
+            id: 0,
+            size,
+            first: end,
+            kind: if is_after_free {
+                live
+            } else {
+                random.pick(&[0, 0, live])
+            },
+            label: 0,
+        });
+        end += size;
+    }
+    let live = chunks.iter().filter(|chunk| !chunk.is_free());
+    let table = Table {
+        slots,
+        size: end,
+        allocated: live.map(|chunk| chunk.size).sum(),
+        next_id: 0,
+        chunks,
+    };
+    rearranged(table, random)
 }
 
 /// The same chunks in any slots, under any ids and labels.

@@ -7,10 +7,11 @@ use std::fmt::{self, Display};
 use std::iter;
 use std::ops::RangeInclusive;
 
+use crate::calls::{answered, Answer, Call, Step, NO_ID};
 use crate::random::Random;
 use crate::rust::Request;
 use crate::table::{Chunk, Table, LARGEST_BLOCK};
-use crate::tracked::{Placed, Tracked};
+use crate::tracked::Tracked;
 
 const HEAD: &str = "\
 -- Runs of random calls as the Rust answers them, and the blocks after them, by computing. Assumes nothing.
@@ -25,9 +26,6 @@ use Rattle.model.specs.Runs.Call.{free, renameTo}
 
 /// The next id of a new block.
 const FIRST_ID: u64 = 2;
-
-/// The next id where none is left to hand out.
-const NO_ID: u64 = u64::MAX;
 
 /// A block before the first call, and what most requests on it are like.
 struct Start {
@@ -78,42 +76,6 @@ const fn fresh(size: u64, slots: usize, page: u64) -> Start {
 /// How many calls are made on each block. Of these numbers it is that which leaves most chunks live.
 const CALLS: RangeInclusive<usize> = 28..=40;
 
-/// One call of a block.
-#[derive(Clone, Copy, Debug)]
-pub enum Call {
-    /// Asks for memory.
-    Allocate(Request),
-    /// Gives the chunk with this id back.
-    Free(u64),
-    /// Gives the chunk with this id this label.
-    Rename(u64, u64),
-}
-
-/// What a call answers, and what is allocated then.
-#[derive(Clone, Copy, Debug, PartialEq, Eq)]
-pub struct Line {
-    /// 0, or the refusal's number.
-    pub number: u64,
-    /// Where the bytes that are handed out begin; 0 where none are.
-    pub offset: u64,
-    /// The id that they are given back by; 0 where none are.
-    pub id: u64,
-    /// The bytes that are allocated after the call.
-    pub allocated: u64,
-}
-
-/// A call with its answer, between two tables.
-pub struct Step {
-    /// The block before the call.
-    pub before: Table,
-    /// The call.
-    pub call: Call,
-    /// Its answer.
-    pub line: Line,
-    /// The block after the call.
-    pub after: Table,
-}
-
 /// The text of the model's file.
 pub fn recorded() -> String {
     let runs = runs().into_iter().zip(1..);
@@ -134,12 +96,12 @@ fn run(start: &Start, random: &mut Random) -> Vec<Step> {
     let steps = iter::repeat_with(|| {
         let before = block.table();
         let call = any_call(start, &before, random);
-        let line = answered(&mut block, call);
+        let answer = answered(&mut block, call);
         let after = block.table();
         Step {
             before,
             call,
-            line,
+            answer,
             after,
         }
     });
@@ -206,49 +168,6 @@ fn any_label(random: &mut Random) -> u64 {
     random.below(1000)
 }
 
-// ---- their answers
-
-/// Makes the call. The Rust is asked about live ids only: others are outside what it is compared in,
-/// and the rules answer 10.
-fn answered(block: &mut Tracked, call: Call) -> Line {
-    let before = block.table();
-    let is_live = |id| live(&before).any(|chunk| chunk.id == id);
-    let (number, offset, id) = match call {
-        Call::Allocate(request) => match block.allocate(request) {
-            Placed::At { offset, id } => (0, offset, id),
-            Placed::OutOfMemory => (out_of_what(before, request), 0, 0),
-            Placed::NoEmptySlot => (9, 0, 0),
-        },
-        Call::Free(id) | Call::Rename(id, _) if !is_live(id) => (10, 0, 0),
-        Call::Free(id) => {
-            block.free(id);
-            (0, 0, 0)
-        }
-        Call::Rename(id, label) => {
-            block.rename(id, label);
-            (0, 0, 0)
-        }
-    };
-    Line {
-        number,
-        offset,
-        id,
-        allocated: block.table().allocated,
-    }
-}
-
-/// What the Rust's `OutOfMemory` stands for: 8 where it would not say so with an id left, else 7.
-fn out_of_what(before: Table, request: Request) -> u64 {
-    let with_an_id = Table {
-        next_id: before.next_id.min(NO_ID - 1),
-        ..before
-    };
-    match Tracked::of(&with_an_id).allocate(request) {
-        Placed::OutOfMemory => 7,
-        Placed::At { .. } | Placed::NoEmptySlot => 8,
-    }
-}
-
 // ---- in the model's words
 
 /// The calls of a run under a name, what they answer, and the block after the last.
@@ -269,7 +188,7 @@ fn statements(number: usize, run: &[Step]) -> String {
         )
     };
     let calls = list(run.iter().map(|step| step.call), "    ");
-    let lines = list(run.iter().map(|step| step.line), "    ");
+    let lines = list(run.iter().map(Line), "    ");
     let chunks = list(last.after.chunks.iter().map(InWords), "      ");
     let (count, next_id) = (run.len(), last.after.next_id);
     format!(
@@ -321,14 +240,13 @@ impl Display for Call {
     }
 }
 
-impl Display for Line {
+/// What a call answers, and what is allocated then.
+struct Line<'a>(&'a Step);
+
+impl Display for Line<'_> {
     fn fmt(&self, f: &mut fmt::Formatter<'_>) -> fmt::Result {
-        let Line {
-            number,
-            offset,
-            id,
-            allocated,
-        } = self;
+        let Answer { number, offset, id } = self.0.answer;
+        let allocated = self.0.after.allocated;
         write!(f, "line {number} {offset} {id} {allocated}")
     }
 }

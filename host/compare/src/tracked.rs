@@ -57,6 +57,11 @@ impl Tracked {
         }
     }
 
+    /// The Rust's block alone.
+    pub fn into_block(self) -> FreeListAllocator {
+        self.block
+    }
+
     /// What the block's table says.
     pub fn table(&self) -> Table {
         let chunks = self.block.chunks.values();
@@ -79,6 +84,12 @@ impl Tracked {
     /// Whether each slot holds a chunk.
     pub fn is_full(&self) -> bool {
         self.slot_of.len() == self.slots
+    }
+
+    /// Whether a chunk that is not free has this id.
+    pub fn is_live(&self, id: u64) -> bool {
+        let chunk = NonZeroU64::new(id).and_then(|id| self.block.chunks.get(&id));
+        chunk.map_or(false, |chunk| rust::kind_number(chunk.allocation_type) != 0)
     }
 
     /// Asks for memory.

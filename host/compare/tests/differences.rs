@@ -1,11 +1,13 @@
 //! The inputs of docs/DIFFERENCES.md, run on both sides: each shows the difference that is listed.
 
+use std::collections::HashSet;
 use std::hint::black_box;
 use std::panic::catch_unwind;
 
 use lunkaseyo::{fmt_bytes, AllocationSizes, Block, Refusal};
 use lunkaseyo_compare::boundary::MB;
-use lunkaseyo_compare::rust::{self, FreeListAllocator, SubAllocator};
+use lunkaseyo_compare::calls::{asked, Answer, Call};
+use lunkaseyo_compare::rust::{self, FreeListAllocator, Request, SubAllocator};
 
 fn number<T>(answer: Result<T, Refusal>) -> Option<u64> {
     answer.err().map(Refusal::number)
@@ -71,4 +73,139 @@ fn a_total_that_the_chunks_do_not_bear_out() {
     let ours = Block::over(&mut words);
     assert_eq!(number(ours.allocated()), Some(2));
     assert_eq!(number(ours.is_empty()), Some(2));
+}
+
+/// A linear byte, anywhere.
+const A_BYTE: Request = Request {
+    size: 1,
+    alignment: 1,
+    kind: 1,
+    granularity: 1,
+    label: 0,
+};
+
+/// The words of a new block.
+fn fresh(size: u64, slots: usize) -> Vec<u64> {
+    let mut words = vec![0; Block::words(slots)];
+    Block::new(&mut words, size).expect("1 to 512 slots, 1 to 2^40 bytes");
+    words
+}
+
+/// Fails unless the request is refused with this number, and changes no word.
+fn assert_refused(mut words: Vec<u64>, request: Request, number: u64) {
+    let before = words.clone();
+    let answer = asked(&mut words, Call::Allocate(request));
+    assert_eq!(answer, Answer::plain(number));
+    assert_eq!(words, before);
+}
+
+#[test]
+fn a_size_of_0() {
+    let nothing = Request { size: 0, ..A_BYTE };
+    let mut theirs = FreeListAllocator::new(1);
+    let placed = rust::allocate(&mut theirs, nothing);
+    assert_eq!(placed.expect("it makes a chunk of no bytes"), (0, 2));
+    assert_eq!((theirs.allocated(), theirs.chunks.len()), (0, 2));
+
+    assert_refused(fresh(1, 1), nothing, 3);
+}
+
+#[test]
+fn alignments_that_are_no_power_of_two() {
+    let aligned = |alignment| Request {
+        alignment,
+        ..A_BYTE
+    };
+    let asked = |alignment| rust::allocate(&mut FreeListAllocator::new(1), aligned(alignment));
+    assert!(catch_unwind(|| asked(0)).is_err());
+    assert_eq!(asked(3).expect("0 keeps to any alignment"), (0, 1));
+
+    assert_refused(fresh(1, 1), aligned(0), 4);
+    assert_refused(fresh(1, 1), aligned(3), 4);
+}
+
+#[test]
+fn granularities_that_are_no_power_of_two() {
+    for granularity in [0, 3] {
+        let request = Request {
+            granularity,
+            ..A_BYTE
+        };
+        let placed = rust::allocate(&mut FreeListAllocator::new(1), request);
+        assert_eq!(placed.expect("there is no neighbour"), (0, 1));
+
+        assert_refused(fresh(1, 1), request, 5);
+    }
+}
+
+#[test]
+fn a_kind_of_0() {
+    let free = Request { kind: 0, ..A_BYTE };
+    let mut theirs = FreeListAllocator::new(1);
+    let placed = rust::allocate(&mut theirs, free);
+    assert_eq!(placed.expect("it hands out a free chunk"), (0, 1));
+    let mut kinds = theirs.chunks.values().map(|chunk| chunk.allocation_type);
+    assert!(kinds.all(|kind| rust::kind_number(kind) == 0));
+    assert_eq!((theirs.allocated(), theirs.free_chunks.len()), (1, 0));
+
+    assert_refused(fresh(1, 1), free, 6);
+}
+
+#[test]
+fn a_split_without_an_empty_slot() {
+    let mut theirs = FreeListAllocator::new(2);
+    let placed = rust::allocate(&mut theirs, A_BYTE);
+    assert_eq!(placed.expect("there is no end of slots"), (0, 2));
+
+    assert_refused(fresh(2, 1), A_BYTE, 9);
+}
+
+/// Places bytes on both sides, which get these ids, and gives back those of the second list.
+fn placed_and_freed(bytes: u64, ids: &[u64], freed: &[u64]) -> (FreeListAllocator, Vec<u64>) {
+    let mut theirs = FreeListAllocator::new(bytes);
+    let mut words = fresh(bytes, bytes as usize);
+    for &id in ids {
+        let placed = rust::allocate(&mut theirs, A_BYTE);
+        assert_eq!(placed.expect("there is room").1, id);
+        assert_eq!(asked(&mut words, Call::Allocate(A_BYTE)).id, id);
+    }
+    for &id in freed {
+        rust::free(&mut theirs, id).expect("the id is live");
+        assert_eq!(asked(&mut words, Call::Free(id)), Answer::plain(0));
+    }
+    (theirs, words)
+}
+
+#[test]
+fn an_id_that_is_given_back_twice() {
+    let (mut theirs, mut words) = placed_and_freed(2, &[2, 1], &[2]);
+    rust::free(&mut theirs, 2).expect("a chunk has the id");
+    assert_eq!(theirs.allocated(), 0);
+    assert_eq!(asked(&mut words, Call::Free(2)), Answer::plain(10));
+    assert_eq!(Block::over(&mut words).allocated(), Ok(1));
+
+    // where nothing is left to subtract from, the difference overflows
+    let again = || rust::free(&mut FreeListAllocator::new(1), 1);
+    assert!(catch_unwind(again).is_err());
+    assert_eq!(asked(&mut fresh(1, 1), Call::Free(1)), Answer::plain(10));
+}
+
+/// What the Rust chooses without docs/oracle.patch is not run here: of equal chunks it is the first
+/// that the set of free ones hands out. But that set is seen, and that its order changes from block to
+/// block, after the same calls.
+#[test]
+fn equal_chunks() {
+    let mut handed_out_first = HashSet::new();
+    for _ in 0..64 {
+        let (mut theirs, mut words) = placed_and_freed(3, &[2, 3, 1], &[2, 1]);
+        let first = theirs.free_chunks.iter().next().expect("two are free");
+        handed_out_first.insert(theirs.chunks[first].offset);
+
+        // with the patch, and here, it is the one at the lower address
+        let placed = rust::allocate(&mut theirs, A_BYTE);
+        assert_eq!(placed.expect("two are free"), (0, 2));
+        let ours = asked(&mut words, Call::Allocate(A_BYTE));
+        assert_eq!((ours.number, ours.offset, ours.id), (0, 0, 2));
+    }
+    assert_eq!(handed_out_first, HashSet::from([0, 2]));
 }

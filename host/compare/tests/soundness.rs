@@ -2,14 +2,12 @@
 //! reading of the rules. What was run is counted; `--nocapture` shows the counts.
 
 use std::collections::HashSet;
-use std::iter::{self, Cycle};
-use std::slice::Iter;
-use std::sync::atomic::{AtomicU64, Ordering};
-use std::thread;
+use std::iter;
 
 use lunkaseyo::ffi;
-use lunkaseyo_compare::damage::{Damage, Leaves};
+use lunkaseyo_compare::damage::{Damage, Leaves, Turns};
 use lunkaseyo_compare::generator::{rearranged, Run};
+use lunkaseyo_compare::parts::in_parts;
 use lunkaseyo_compare::random::Random;
 use lunkaseyo_compare::reading::{read, Reading, Rule};
 use lunkaseyo_compare::table::{Table, MOST_SLOTS};
@@ -51,29 +49,19 @@ fn compare_sound(table: Table, tally: &mut Tally) {
     assert_eq!(reading, Reading::Sound(table));
 }
 
-/// Damages in turn, over and over.
-struct Turns(Cycle<Iter<'static, Damage>>);
-
-impl Turns {
-    fn of(damages: &'static [Damage]) -> Self {
-        Self(damages.iter().cycle())
-    }
-
-    /// A sound table with the next damage that it has a place for.
-    fn compare_spoilt(&mut self, table: &Table, random: &mut Random, tally: &mut Tally) {
-        let spoilt = |damage: &'static Damage| Some((damage, damage.spoil(table, random)?));
-        let (damage, words) = self.0.find_map(spoilt).expect("any table can be damaged");
-        let reading = compare(&words);
-        tally.count(damage.name, words.len(), &reading);
-        let is_left = match damage.leaves {
-            Leaves::NotATable => reading == Reading::NotATable,
-            Leaves::Only(rule) => reading == Reading::Unsound(vec![rule]),
-            Leaves::Unsound => matches!(reading, Reading::Unsound(_)),
-            Leaves::Sound => matches!(reading, Reading::Sound(_)),
-            Leaves::Any => true,
-        };
-        assert!(is_left, "{}: {reading:?} of {table:?}", damage.name);
-    }
+/// A sound table with the next damage that it has a place for.
+fn compare_spoilt(damages: &mut Turns, table: &Table, random: &mut Random, tally: &mut Tally) {
+    let (damage, words) = damages.spoil(table, random);
+    let reading = compare(&words);
+    tally.count(damage.name, words.len(), &reading);
+    let is_left = match damage.leaves {
+        Leaves::NotATable => reading == Reading::NotATable,
+        Leaves::Only(rule) => reading == Reading::Unsound(vec![rule]),
+        Leaves::Unsound => matches!(reading, Reading::Unsound(_)),
+        Leaves::Sound => matches!(reading, Reading::Sound(_)),
+        Leaves::Any => true,
+    };
+    assert!(is_left, "{}: {reading:?} of {table:?}", damage.name);
 }
 
 /// One part of the tables.
@@ -89,11 +77,11 @@ fn compare_part(part: u64) -> Tally {
             let called = run.next_table(&mut random);
             for table in [rearranged(called.clone(), &mut random), called] {
                 for _ in 0..3 {
-                    one_word.compare_spoilt(&table, &mut random, &mut tally);
+                    compare_spoilt(&mut one_word, &table, &mut random, &mut tally);
                 }
-                several_words.compare_spoilt(&table, &mut random, &mut tally);
+                compare_spoilt(&mut several_words, &table, &mut random, &mut tally);
                 if random.once_in(8) {
-                    word_count.compare_spoilt(&table, &mut random, &mut tally);
+                    compare_spoilt(&mut word_count, &table, &mut random, &mut tally);
                 }
                 compare_sound(table, &mut tally);
             }
@@ -102,33 +90,9 @@ fn compare_part(part: u64) -> Tally {
     tally
 }
 
-/// All parts, on as many threads as the machine runs at once.
-fn compare_all() -> Tally {
-    let next = AtomicU64::new(0);
-    let parts = || {
-        let mut tally = Tally::default();
-        loop {
-            let part = next.fetch_add(1, Ordering::Relaxed);
-            if part >= PARTS {
-                return tally;
-            }
-            tally.add(compare_part(part));
-        }
-    };
-    let mut tally = Tally::default();
-    thread::scope(|scope| {
-        let count = thread::available_parallelism().map_or(1, |count| count.get());
-        let threads: Vec<_> = (0..count).map(|_| scope.spawn(parts)).collect();
-        for thread in threads {
-            tally.add(thread.join().expect("all tables of the part compare equal"));
-        }
-    });
-    tally
-}
-
 #[test]
 fn two_million_tables() {
-    let tally = compare_all();
+    let tally = in_parts(PARTS, compare_part, Tally::add);
     println!("{tally}");
     let tables = tally.said().tables();
     let of_one_word: u64 = Damage::ONE_WORD
