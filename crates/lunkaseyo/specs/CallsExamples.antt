@@ -5,7 +5,7 @@ use mathlib.Core.List.{[], _∷_}
 use mathlib.Core.Path.{_≡_, refl}
 use Rattle.laws.specs.Reply.{accepted, refused}
 use Rattle.sizes.specs.Sizes.{defaultSizes}
-use Rattle.lunkaseyo.specs.BlockCalls.{wordsOut}
+use Rattle.lunkaseyo.specs.BlockCalls.{wordsOut, request, placedOut}
 use Rattle.lunkaseyo.specs.Outs.{valueOut, flagOut}
 use Rattle.lunkaseyo.specs.SizesCalls.{sizesOf, words, sizesOut, isHost}
 use Rattle.lunkaseyo.specs.TextCalls.{textOut}
@@ -42,6 +42,16 @@ words-made = refl
 
 words-kept : wordsOut {A = ℕ} (refused 13, 7 ∷ []) ≡ (13, 7 ∷ [])
 words-kept = refl
+
+-- A request's five numbers are in the order of its fields; its offset is written, then its id, and zeros on a refusal.
+request-order : request 1 2 3 4 5 ≡ record { size = 1; alignment = 2; kind = 3; granularity = 4; label = 5 }
+request-order = refl
+
+placed : placedOut (accepted record { offset = 1024; id = 3 }, 7 ∷ []) ≡ (0, 1024, 3, 7 ∷ [])
+placed = refl
+
+not-placed : placedOut (refused 7, 7 ∷ []) ≡ (7, 0, 0, 7 ∷ [])
+not-placed = refl
 
 flag-yes : flagOut (accepted true) ≡ (0, 1)
 flag-yes = refl
