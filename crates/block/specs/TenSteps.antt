@@ -151,3 +151,8 @@ last-id :
     linesOn (linear 1 1 ∷ linear 1 1 ∷ []) (nextIs (2 ^ 64 - 2)) ≡ line 0 0 (2 ^ 64 - 2) 1 ∷ line 8 0 0 1 ∷ []
 unfolding onOld nextIs
 last-id = refl
+
+-- On words that are no table nothing is allocated.
+no-table-line : linesOn (free 2 ∷ []) (record { words = 9 ∷ []; live = [] }) ≡ line 1 0 0 0 ∷ []
+unfolding onOld
+no-table-line = refl

@@ -1,8 +1,11 @@
 -- Worked examples of the calls, by computing. Assumes nothing.
 use Prim.Native.Nat.{ℕ, _-_, _^_}
+use native.Mathlib.Omega.{arith}
 use mathlib.Core.List.{[], _∷_}
+use mathlib.Core.Logic.{inr}
 use mathlib.Core.Path.{_≡_, refl}
 use Rattle.model.specs.Lines.{line, lines, ask, beginAt}
+use Rattle.model.specs.Requests.{WellFormed, Words}
 use Rattle.model.specs.Runs.{Call, begin}
 use Rattle.model.specs.Runs.Call.{free}
 
@@ -59,3 +62,15 @@ one-slot = refl
 pub no-ids : lines (linear 1 1 ∷ linear 4096 1 ∷ []) (beginAt (2 ^ 64 - 1) 4096 8) ≡ line 8 0 0 0 ∷ line 0 0 1 4096 ∷ []
 unfolding lines
 no-ids = refl
+
+-- The statements on refusals are about something: a request of 64-bit words, and a well-formed one.
+pub in-words : Words (record { size = 1; alignment = 2 ^ 63; kind = 2; granularity = 1; label = 0 })
+in-words = record { alignment = omega arith; granularity = omega arith }
+
+pub formed-well : WellFormed (record { size = 1; alignment = 2 ^ 63; kind = 2; granularity = 1; label = 0 })
+formed-well = record {
+  size = omega arith;
+  alignment = (63, omega arith, refl);
+  granularity = (0, omega arith, refl);
+  kind = inr refl;
+}
