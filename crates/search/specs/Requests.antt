@@ -1,7 +1,7 @@
 -- A request as the model takes it, and what is known of one without a fault. Assumes nothing.
 use Prim.Native.Nat.{ℕ, _≤_}
 use mathlib.Core.Bool.{true}
-use mathlib.Core.Path.{_≡_}
+use mathlib.Core.Path.{_≡_, refl}
 use borrow.Author.Tests.{eq-eqb}
 use Rattle.laws.specs.Powers.{Pow2, ones-of-pow2}
 use Rattle.pages.specs.Pages.{isPowerOfTwo}
@@ -17,6 +17,11 @@ requestOf r = record {
   granularity = r .granularity;
   label = r .label;
 }
+
+-- Each field of it is the code's own.
+pub fields-kept : (r : declared.Request) → (requestOf r .size ≡ r .size) × (requestOf r .alignment ≡ r .alignment)
+    × (requestOf r .kind ≡ r .kind) × (requestOf r .granularity ≡ r .granularity) × (requestOf r .label ≡ r .label)
+fields-kept r = (refl, refl, refl, refl, refl)
 
 power : {x : ℕ} → Pow2 x → isPowerOfTwo x ≡ true
 unfolding isPowerOfTwo
