@@ -18,10 +18,9 @@ use Rattle.words.specs.Written.{known}
 use Rattle.search.specs.Live.{liveSlot, live-none, live-some}
 use Rattle.chunks.specs.Premises.{LiveIn}
 use Rattle.chunks.specs.Steps.{relabelled}
-use Rattle.block.specs.Calls.{onTable}
+use Rattle.opening.specs.Look.{onTable, tableFault}
 use Rattle.block.specs.GivingBack.{changes, slotFound, foundOn, freeOn, renameOn, Bounded}
-use Rattle.block.specs.Look.{tableFault}
-use Rattle.block.proofs.Fault.{is-fit, unfit, on-block}
+use Rattle.opening.specs.Fault.{is-fit, unfit, on-block}
 
 -- what is known of a chunk that was found
 pub record FoundLive (ws : List ℕ) (id k : ℕ) : Type 0 where

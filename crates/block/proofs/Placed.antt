@@ -26,9 +26,10 @@ use Rattle.search.specs.Best.{bestSlot, best-none, best-some}
 use Rattle.search.specs.Empty.{new-slot-empty}
 use Rattle.search.specs.Fit.{beforeAt, offset-chunk}
 use Rattle.block.specs.Calls.{leaves}
-use Rattle.block.specs.Look.{tableFault}
-use Rattle.block.specs.Placing.{Given, given, placedOn, allocateOn, Chosen, Measured}
-use Rattle.block.proofs.Fault.{unfit, on-block}
+use Rattle.opening.specs.Look.{tableFault}
+use Rattle.sub_allocator.specs.Answers.{Given}
+use Rattle.block.specs.Placing.{given, placedOn, allocateOn, Chosen, Measured}
+use Rattle.opening.specs.Fault.{unfit, on-block}
 
 module _ (ws : List ℕ) (k : ℕ) (r : Request) (h : Chosen ws k r) where
   abbrev z : Spot

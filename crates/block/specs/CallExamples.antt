@@ -7,7 +7,8 @@ use Rattle.laws.specs.Reply.{Reply, accepted, refused}
 use Rattle.model.specs.Placing.{Request}
 use Rattle.model.specs.Runs.Call.{free}
 use Rattle.table.specs.Layout.{at, emptyRow}
-use Rattle.block.specs.Placing.{Given, allocateOn}
+use Rattle.sub_allocator.specs.Answers.{Given}
+use Rattle.block.specs.Placing.{allocateOn}
 use Rattle.block.specs.GivingBack.{freeOn, renameOn}
 use Rattle.block.specs.Runs.{runOn}
 use Rattle.block.specs.TenSteps.{onOld}

@@ -1,45 +1,13 @@
 -- That what a call's statement allows is one answer and one run of words. Assumes nothing.
 use Prim.Native.Nat.{ℕ}
 use mathlib.Core.List.{List}
-use mathlib.Core.Path.{_≡_, refl, sym, ap, _∙_}
-use Rattle.laws.specs.Reply.{Reply}
+use mathlib.Core.Path.{_≡_}
 use Rattle.model.specs.Placing.{Request}
-use Rattle.block.specs.Placing.{Given, replyPlacement, allocateOn}
-use Rattle.block.specs.GivingBack.{replyChanged, freeOn, renameOn}
-use Rattle.block.specs.declared.placing.Placement.{Placement}
-use Rattle.block.specs.declared.placing.Placement.the-variants as placement
-use Rattle.block.specs.declared.giving_back.Changed.{Changed}
-use Rattle.block.specs.declared.giving_back.Changed.the-variants as changed
-
--- ---- the code's answers
-
--- Two answers of `allocate` that stand for the same reply are equal.
-pub one-placement : (a b : Placement) → replyPlacement a ≡ replyPlacement b → a ≡ b
-one-placement (placement.Placed o i) (placement.Placed p j) e =
-    let g : _≡_ {A = Given} (record { offset = o; id = i }) (record { offset = p; id = j }) = cc in
-    let x : o ≡ p = ap (λ (x : Given). x .offset) g in
-    let y : i ≡ j = ap (λ (x : Given). x .id) g in
-    cc
-one-placement (placement.Placed o i) (placement.Refused m) e = cc
-one-placement (placement.Refused n) (placement.Placed p j) e = cc
-one-placement (placement.Refused n) (placement.Refused m) e = cc
-
--- And two of `free` or `rename`.
-pub one-change : (a b : Changed) → replyChanged a ≡ replyChanged b → a ≡ b
-one-change changed.Done changed.Done e = refl
-one-change changed.Done (changed.Refused m) e = cc
-one-change (changed.Refused n) changed.Done e = cc
-one-change (changed.Refused n) (changed.Refused m) e = cc
-
--- ---- the calls
-
--- what is answered and written, where equal replies are those of equal answers
-one-outcome : {C B : Type 0} (reply : C → Reply B) → ((a b : C) → reply a ≡ reply b → a ≡ b)
-    → (call : Reply B × List ℕ) (a b : C) (vs us : List ℕ) → (reply a, vs) ≡ call → (reply b, us) ≡ call
-    → (a ≡ b) × (vs ≡ us)
-one-outcome reply one call a b vs us p q =
-    let e = p ∙ sym q in
-    (one a b (ap (λ (x : Reply _ × List ℕ). x .0) e), ap (λ (x : Reply _ × List ℕ). x .1) e)
+use Rattle.sub_allocator.specs.Answers.{replyPlacement, replyChanged, one-placement, one-change, one-outcome}
+use Rattle.block.specs.Placing.{allocateOn}
+use Rattle.block.specs.GivingBack.{freeOn, renameOn}
+use Rattle.sub_allocator.specs.declared.answers.Placement.{Placement}
+use Rattle.sub_allocator.specs.declared.answers.Changed.{Changed}
 
 -- Two outcomes that the statement of `allocate` allows are equal, in the answer and in every word.
 pub allocate-determined : (ws : List ℕ) (r : Request) (a b : Placement) (vs us : List ℕ)

@@ -12,16 +12,10 @@ use Rattle.model.specs.GivingBack.{findLive, grown, mergeLeft, release, rename}
 use Rattle.model.specs.Placing.{withChunks}
 use Rattle.words.specs.Words.{blockOf, decode}
 use Rattle.chunks.specs.Premises.{FreeIn, LiveIn}
-use Rattle.block.specs.Calls.{onTable, leaves}
-use Rattle.block.specs.declared.giving_back.Changed.{Changed}
-use Rattle.block.specs.declared.giving_back.Changed.the-variants as changed
+use Rattle.opening.specs.Look.{onTable}
+use Rattle.block.specs.Calls.{leaves}
 use Rattle.block.specs.declared.giving_back.Found.{Found}
 use Rattle.block.specs.declared.giving_back.Found.the-variants as found
-
--- the code's answer, as the paper numbers it
-abbrev pub replyChanged : Changed → Reply (Unit {0})
-replyChanged changed.Done = accepted tt
-replyChanged (changed.Refused n) = refused n
 
 -- a call that is told no more than that it was done
 abbrev pub changes : List ℕ → Reply Block → Reply (Unit {0}) × List ℕ

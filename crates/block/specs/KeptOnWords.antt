@@ -21,11 +21,13 @@ use Rattle.words.specs.Soundness.{Sound}
 use Rattle.words.specs.Rows.{encode-length}
 use Rattle.words.specs.Written.{decode-encode}
 use Rattle.words.specs.Checked.{decode-exactly}
-use Rattle.block.specs.Calls.{onTable, leaves}
-use Rattle.block.specs.Placing.{Given, given, allocateOn}
+use Rattle.opening.specs.Look.{onTable}
+use Rattle.block.specs.Calls.{leaves}
+use Rattle.sub_allocator.specs.Answers.{Given}
+use Rattle.block.specs.Placing.{given, allocateOn}
 use Rattle.block.specs.GivingBack.{changes, freeOn, renameOn}
-use Rattle.block.specs.Questions.{allocatedOn}
-use Rattle.block.specs.Looked.{TableWords, table-exactly, sound-answered}
+use Rattle.opening.specs.Questions.{allocatedOn}
+use Rattle.opening.specs.Looked.{TableWords, table-exactly, sound-answered}
 use Rattle.block.specs.Outcomes.{call-accepted, outcome-accepted}
 use Rattle.block.specs.Refused.{LiveSlot, free-accepted}
 use Rattle.block.specs.RoomOnWords.{BestAt, best-words}

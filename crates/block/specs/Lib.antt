@@ -1,17 +1,11 @@
--- The calls of a free-list block: what they answer, and what is proved of that.
+-- The calls that change a free-list block: what they answer, and what is proved of that.
 
 -- the definitions
 pub mod Calls
-pub mod Look
-pub mod Creation
-pub mod Questions
 pub mod Placing
 pub mod GivingBack
 pub mod Runs
--- when each call is refused, what it answers otherwise, and what a new block is
-pub mod Exactly
-pub mod NewBlock
--- the same of placing, giving back and renaming; demand 3 on words; what a call keeps; that it has one outcome
+-- when each call is refused; demand 3 on words; what a call keeps; that it has one outcome
 pub mod Refused
 pub mod RoomOnWords
 pub mod KeptOnWords
@@ -21,10 +15,8 @@ pub mod RunsApart
 pub mod RunsWritten
 pub mod RunsLines
 -- worked examples
-pub mod BlockExamples
 pub mod TenSteps
 pub mod CallExamples
 -- on the way to these
-pub mod Looked
 pub mod Outcomes
 pub mod SlotsOnWords

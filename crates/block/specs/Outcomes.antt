@@ -10,8 +10,9 @@ use Rattle.words.specs.Words.{encode, blockOf, Read, notATable, unsound, table,
 use Rattle.words.specs.Soundness.{Sound}
 use Rattle.words.specs.Written.{decode-table}
 use Rattle.words.specs.Checked.{sound-exactly}
-use Rattle.block.specs.Calls.{onTable, leaves}
-use Rattle.block.specs.Looked.{TableWords, table-exactly, sound-answered, call-refused-1, call-refused-2, call-refused-later}
+use Rattle.opening.specs.Look.{onTable}
+use Rattle.block.specs.Calls.{leaves}
+use Rattle.opening.specs.Looked.{TableWords, table-exactly, sound-answered, call-refused-1, call-refused-2, call-refused-later}
 
 module _ {A B : Type 0} (tells : A → B) (after : A → Block) (ws : List ℕ) where
   -- A refusal is told as it is.

@@ -4,25 +4,15 @@ use mathlib.Core.Bool.{true}
 use mathlib.Core.List.{List}
 use mathlib.Core.Option.{some}
 use mathlib.Core.Path.{_≡_}
-use Rattle.laws.specs.Reply.{Reply, accepted, refused}
+use Rattle.laws.specs.Reply.{Reply}
 use Rattle.model.specs.Block.{Spot}
 use Rattle.model.specs.Placing.{Request, Placed, offsetIn, taken, chosen, fault, placeIn, place}
+use Rattle.sub_allocator.specs.Answers.{Given}
 use Rattle.table.specs.Layout.{isTable, sizeAt}
 use Rattle.words.specs.Words.{blockOf, sound, decode}
 use Rattle.chunks.specs.Premises.{FreeIn}
-use Rattle.block.specs.Calls.{onTable, leaves}
-use Rattle.block.specs.declared.placing.Placement.{Placement}
-use Rattle.block.specs.declared.placing.Placement.the-variants as placement
-
--- what an accepted request is told: the offset, and the id that it is given back by
-pub record Given : Type 0 where
-  pub offset : ℕ
-  pub id : ℕ
-
--- the code's answer, as the paper numbers it
-abbrev pub replyPlacement : Placement → Reply Given
-replyPlacement (placement.Placed offset id) = accepted record { offset = offset; id = id }
-replyPlacement (placement.Refused n) = refused n
+use Rattle.opening.specs.Look.{onTable}
+use Rattle.block.specs.Calls.{leaves}
 
 abbrev pub given : Placed → Given
 given p = record { offset = p .offset; id = p .id }

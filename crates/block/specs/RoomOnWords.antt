@@ -22,8 +22,9 @@ use Rattle.table.specs.Layout.{Slot, nextId, idAt, sizeAt, firstByteAt, kindAt,
 use Rattle.words.specs.Words.{slotOf, blockOf}
 use Rattle.words.specs.Soundness.{Used, Sound}
 use Rattle.block.specs.Calls.{leaves}
-use Rattle.block.specs.Placing.{Given, given, allocateOn}
-use Rattle.block.specs.Looked.{TableWords, sound-answered}
+use Rattle.sub_allocator.specs.Answers.{Given}
+use Rattle.block.specs.Placing.{given, allocateOn}
+use Rattle.opening.specs.Looked.{TableWords, sound-answered}
 use Rattle.block.specs.Outcomes.{told-refused, outcome-accepted}
 use Rattle.block.specs.SlotsOnWords.{Standing, table-known, spot-stands, slot-holds, every-chunk}
 

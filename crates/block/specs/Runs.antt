@@ -6,9 +6,10 @@ use Rattle.model.specs.Lines.{Line, line}
 use Rattle.model.specs.Placing.{Request}
 use Rattle.model.specs.Runs.{Call, Range, without}
 use Rattle.model.specs.Runs.Call.{allocate, free, renameTo}
-use Rattle.block.specs.Creation.{newOn}
-use Rattle.block.specs.Questions.{allocatedOn}
-use Rattle.block.specs.Placing.{Given, allocateOn}
+use Rattle.opening.specs.Creation.{newOn}
+use Rattle.opening.specs.Questions.{allocatedOn}
+use Rattle.sub_allocator.specs.Answers.{Given}
+use Rattle.block.specs.Placing.{allocateOn}
 use Rattle.block.specs.GivingBack.{freeOn, renameOn}
 
 -- the words of a table, and the ranges that were handed out on it and not given back

@@ -24,10 +24,11 @@ use Rattle.words.specs.Rows.{encode-head}
 use Rattle.words.specs.Spots.{InSlot, in-words, written-spot, used-spot, spot-used}
 use Rattle.words.specs.Written.{decode-encode, decode-table}
 use Rattle.block.specs.Calls.{leaves}
-use Rattle.block.specs.Creation.{newOn}
-use Rattle.block.specs.Placing.{Given, given, allocateOn}
-use Rattle.block.specs.Exactly.{new-accepted}
-use Rattle.block.specs.NewBlock.{new-table, new-sound}
+use Rattle.opening.specs.Creation.{newOn}
+use Rattle.sub_allocator.specs.Answers.{Given}
+use Rattle.block.specs.Placing.{given, allocateOn}
+use Rattle.opening.specs.Exactly.{new-accepted}
+use Rattle.opening.specs.NewBlock.{new-table, new-sound}
 use Rattle.block.specs.Runs.{WordsState, stepOn, runOn, beginOn}
 use Rattle.block.specs.RunsWritten.{allocate-written, written, step-written, run-written, step-kept, run-kept, begin-written, run-length, run-sound}
 

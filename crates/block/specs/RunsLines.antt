@@ -16,10 +16,10 @@ use Rattle.table.specs.Layout.{slotCount}
 use Rattle.words.specs.Words.{encode}
 use Rattle.words.specs.Written.{decode-encode}
 use Rattle.block.specs.Calls.{leaves}
-use Rattle.block.specs.Creation.{newOn}
+use Rattle.opening.specs.Creation.{newOn}
 use Rattle.block.specs.GivingBack.{changes}
 use Rattle.block.specs.Placing.{given}
-use Rattle.block.specs.Questions.{allocatedOn}
+use Rattle.opening.specs.Questions.{allocatedOn}
 use Rattle.block.specs.Runs.{told, placedLine, changedLine, stepOn, lineOn, linesOn, WordsState, beginOn}
 use Rattle.block.specs.RunsWritten.{allocate-written, free-written, rename-written, written, step-kept, step-written, begin-written}
 

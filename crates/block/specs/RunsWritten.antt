@@ -19,12 +19,13 @@ use Rattle.words.specs.Soundness.{Sound}
 use Rattle.words.specs.Checked.{decode-exactly}
 use Rattle.words.specs.Rows.{encode-length}
 use Rattle.words.specs.Written.{decode-encode, encode-decode, decode-sound}
-use Rattle.block.specs.Calls.{onTable, leaves}
-use Rattle.block.specs.Creation.{newOn}
+use Rattle.opening.specs.Look.{onTable}
+use Rattle.block.specs.Calls.{leaves}
+use Rattle.opening.specs.Creation.{newOn}
 use Rattle.block.specs.Placing.{given, allocateOn}
 use Rattle.block.specs.GivingBack.{changes, freeOn, renameOn}
-use Rattle.block.specs.Looked.{TableWords, table-exactly}
-use Rattle.block.specs.NewBlock.{new-read}
+use Rattle.opening.specs.Looked.{TableWords, table-exactly}
+use Rattle.opening.specs.NewBlock.{new-read}
 use Rattle.block.specs.Runs.{WordsState, afterAllocate, afterFree, afterRename, stepOn, runOn, beginOn}
 
 -- ---- a call on the words that a sound block is written as

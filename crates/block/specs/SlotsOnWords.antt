@@ -17,7 +17,7 @@ use Rattle.words.specs.Soundness.{Used, Sound}
 use Rattle.words.specs.Written.{Known, known}
 use Rattle.words.specs.Checked.{sound-exactly}
 use Rattle.words.specs.Spots.{InSlot, sound-spot, in-words, used-spot, spot-used}
-use Rattle.block.specs.Looked.{TableWords, table-exactly}
+use Rattle.opening.specs.Looked.{TableWords, table-exactly}
 
 -- the chunk of z, with its neighbours, stands in slot k
 pub record Standing (ws : List ℕ) (z : Spot) (k : ℕ) : Type 0 where

@@ -11,11 +11,11 @@ use Rattle.model.specs.Runs.Call.{free}
 use Rattle.table.specs.Layout.{isTable}
 use Rattle.words.specs.Checks.{upTo}
 use Rattle.words.specs.Words.{rowAt, rows, encode, read, chunksOf, blockOf, chunkOk, allOk, noneFree, rules, sound, decode}
-use Rattle.block.specs.Creation.{newOn}
-use Rattle.block.specs.Questions.{allocatedOn}
+use Rattle.opening.specs.Creation.{newOn}
+use Rattle.opening.specs.Questions.{allocatedOn}
 use Rattle.block.specs.Placing.{allocateOn}
 use Rattle.block.specs.GivingBack.{freeOn, renameOn}
-use Rattle.block.specs.NewBlock.{new-blind}
+use Rattle.opening.specs.NewBlock.{new-blind}
 use Rattle.block.specs.Runs.{WordsState, runOn, beginOn, linesOn}
 
 abbrev linear : ℕ → ℕ → Call

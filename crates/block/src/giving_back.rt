@@ -1,9 +1,10 @@
 // Giving back a live chunk by its id, and renaming it.
-use crate::look;
 use chunks::joining;
 use chunks::labels;
 use chunks::taking;
+use opening::look;
 use search::live;
+use sub_allocator::answers::Changed;
 use table::layout;
 ghost use mathlib.Core.Path.{_≡_};
 ghost use Rattle.laws.specs.Reply.{number};
@@ -12,24 +13,8 @@ ghost use Rattle.model.specs.GivingBack.{freed};
 ghost use Rattle.model.specs.Placing.{withChunks};
 ghost use Rattle.words.specs.Words.{encode, blockOf};
 ghost use Rattle.chunks.specs.Premises.{FreeIn, LiveIn};
-ghost use Rattle.block.specs.GivingBack.{replyChanged, replyFound, foundOn, freeOn, renameOn, joinNext, joinPrevious, FreeHere, LiveHere};
-
-pub enum Changed {
-    Done,
-    Refused(u64),
-}
-
-impl Changed {
-    // The number given back: 0 where the call was accepted.
-    pub fn number(self) -> u64
-        ensures { λ r. ⌜ r ≡ number (replyChanged self) ⌝ }
-    {
-        match self {
-            Changed::Done => 0,
-            Changed::Refused(n) => n,
-        }
-    }
-}
+ghost use Rattle.sub_allocator.specs.Answers.{replyChanged};
+ghost use Rattle.block.specs.GivingBack.{replyFound, foundOn, freeOn, renameOn, joinNext, joinPrevious, FreeHere, LiveHere};
 
 // Where the live chunk with an id is.
 enum Found {

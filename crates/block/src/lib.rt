@@ -1,6 +1,3 @@
-// The calls of a free-list block, on the lent words of its table.
-pub mod creation;
+// The calls that change a free-list block, on the lent words of its table.
 pub mod giving_back;
-mod look;
 pub mod placing;
-pub mod questions;

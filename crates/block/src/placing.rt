@@ -1,33 +1,17 @@
 // Placing: the offset and the id that a request is given, and the table after it.
-use crate::look;
 use chunks::splitting;
 use chunks::taking;
+use opening::look;
 use search::best;
 use search::empty;
 use search::fit;
-use search::request::Request;
+use sub_allocator::answers::Placement;
+use sub_allocator::request::Request;
 use table::layout;
 ghost use mathlib.Core.Path.{_≡_};
-ghost use Rattle.laws.specs.Reply.{number};
-ghost use Rattle.search.specs.Requests.{requestOf};
-ghost use Rattle.block.specs.Placing.{replyPlacement, placedOn, allocateOn, Chosen, Measured};
-
-pub enum Placement {
-    Placed { offset: u64, id: u64 },
-    Refused(u64),
-}
-
-impl Placement {
-    // The number given back: 0 where the call was accepted.
-    pub fn number(self) -> u64
-        ensures { λ r. ⌜ r ≡ number (replyPlacement self) ⌝ }
-    {
-        match self {
-            Placement::Placed { offset: _, id: _ } => 0,
-            Placement::Refused(n) => n,
-        }
-    }
-}
+ghost use Rattle.sub_allocator.specs.Requests.{requestOf};
+ghost use Rattle.sub_allocator.specs.Answers.{replyPlacement};
+ghost use Rattle.block.specs.Placing.{placedOn, allocateOn, Chosen, Measured};
 
 // The first n bytes of the chunk in slot k, which is larger; the request's are the last of them, from the offset on.
 fn place_piece(words: &mut [u64], k: u64, offset: u64, n: u64, request: Request) -> Placement

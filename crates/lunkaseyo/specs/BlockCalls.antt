@@ -3,7 +3,7 @@ use Prim.Native.Nat.{ℕ}
 use mathlib.Core.List.{List}
 use Rattle.laws.specs.Reply.{Reply, accepted, refused, number}
 use Rattle.model.specs.Placing.{Request}
-use Rattle.block.specs.Placing.{Given}
+use Rattle.sub_allocator.specs.Answers.{Given}
 
 -- the number given back, and the words after the call
 abbrev pub wordsOut : {A : Type 0} → Reply A × List ℕ → ℕ × List ℕ

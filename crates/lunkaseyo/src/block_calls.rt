@@ -1,17 +1,17 @@
 // A block's calls at the boundary: its table as a word slice, the value asked for out, 0 on a refusal.
-use block::creation;
 use block::giving_back;
 use block::placing;
-use block::placing::Placement;
-use block::questions;
-use block::questions::IsEmpty;
-use block::questions::Total;
-use search::request::Request;
+use opening::creation;
+use opening::questions;
+use sub_allocator::answers::IsEmpty;
+use sub_allocator::answers::Placement;
+use sub_allocator::answers::Total;
+use sub_allocator::request::Request;
 ghost use mathlib.Core.Path.{_≡_};
-ghost use Rattle.block.specs.Creation.{newOn};
+ghost use Rattle.opening.specs.Creation.{newOn};
 ghost use Rattle.block.specs.GivingBack.{freeOn, renameOn};
 ghost use Rattle.block.specs.Placing.{allocateOn};
-ghost use Rattle.block.specs.Questions.{allocatedOn, isEmptyOn};
+ghost use Rattle.opening.specs.Questions.{allocatedOn, isEmptyOn};
 ghost use Rattle.lunkaseyo.specs.BlockCalls.{wordsOut, request, placedOut};
 ghost use Rattle.lunkaseyo.specs.Outs.{valueOut, flagOut};
 

@@ -1,13 +1,13 @@
 // Whether the calls of a free-list block answer as a recorded line says, on the words of its table. A line with too few or
 // too many fields agrees with nothing, and is no call.
 use crate::checksum::checksum;
-use block::creation;
 use block::giving_back;
 use block::placing;
-use block::placing::Placement;
-use block::questions;
-use block::questions::Total;
-use search::request::Request;
+use opening::creation;
+use opening::questions;
+use sub_allocator::answers::Placement;
+use sub_allocator::answers::Total;
+use sub_allocator::request::Request;
 use table::layout;
 
 // What a line came to, and how many words of the store the next one finds a block on: 0 where there is none.

@@ -1,5 +1,4 @@
 -- The laws that the proofs of `search` share. Assumes nothing.
-pub mod Faults
 pub mod Scanning
 pub mod LiveWays
 pub mod PageWays

@@ -17,7 +17,7 @@ use Rattle.model.specs.Placing.{Request, fault, asked, raised, offsetAt, takenA
 use Rattle.model.specs.Requests.{Words}
 use Rattle.table.specs.Layout.{sizeAt, firstByteAt}
 use Rattle.words.specs.Words.{sound}
-use Rattle.search.specs.Requests.{fault-free}
+use Rattle.sub_allocator.specs.Requests.{fault-free}
 use Rattle.search.specs.Held.{HeldIn, in-bytes}
 
 -- ---- rounding up

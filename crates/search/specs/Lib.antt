@@ -1,5 +1,4 @@
 -- What is looked up in a sound table.
-pub mod Requests
 pub mod Held
 pub mod Scan
 pub mod Empty

@@ -1,6 +1,6 @@
 // The chunk that is chosen for a request: the smallest that holds it, the lowest address among equals.
 use crate::fit;
-use crate::request::Request;
+use sub_allocator::request::Request;
 use table::layout;
 ghost use mathlib.Core.Bool.{true};
 ghost use mathlib.Core.Path.{_≡_};
@@ -8,7 +8,7 @@ ghost use Prim.Native.Nat.{_+_, _^_, _<_};
 ghost use Rattle.model.specs.Placing.{fault};
 ghost use Rattle.table.specs.Layout.{isTable};
 ghost use Rattle.words.specs.Words.{sound};
-ghost use Rattle.search.specs.Requests.{requestOf};
+ghost use Rattle.sub_allocator.specs.Requests.{requestOf};
 ghost use Rattle.search.specs.Held.{HeldIn};
 ghost use Rattle.search.specs.Best.{bestSlot, betterAt};
 

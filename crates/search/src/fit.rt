@@ -1,6 +1,6 @@
 // Where a request stands in a free chunk, and whether it fits there.
-use crate::request::Request;
 use pages;
+use sub_allocator::request::Request;
 use table::layout;
 ghost use mathlib.Core.Bool.{true};
 ghost use mathlib.Core.Path.{_≡_};
@@ -9,7 +9,7 @@ ghost use Rattle.model.specs.Placing.{fault, asked, offsetAt, fitsAt};
 ghost use Rattle.pages.specs.Vulkan.{mayStand};
 ghost use Rattle.table.specs.Layout.{sizeAt, firstByteAt};
 ghost use Rattle.words.specs.Words.{sound};
-ghost use Rattle.search.specs.Requests.{requestOf};
+ghost use Rattle.sub_allocator.specs.Requests.{requestOf};
 ghost use Rattle.search.specs.Held.{HeldIn};
 ghost use Rattle.search.specs.Fit.{beforeAt, afterAt};
 

@@ -1,6 +1,6 @@
 -- `block::giving_back::find` meets its contract. Assumes nothing.
 use mathlib.Core.Path.{sym, _∙_}
-use Rattle.block.proofs.Fault.{is-fit}
+use Rattle.opening.specs.Fault.{is-fit}
 use Rattle.block.proofs.Answered.{not-looked, not-found, was-found}
 use borrow.Author.Needs.{needs}
 use Rattle.block.proofs.giving_back.find.Statement.{statement}

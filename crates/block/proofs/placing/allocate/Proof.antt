@@ -1,6 +1,6 @@
 -- `block::placing::allocate` meets its contract. Assumes nothing.
 use Rattle.block.proofs.Placed.{no-block, ill-formed, no-room, on-chosen, chosen-in}
-use Rattle.block.proofs.Fault.{is-fit}
+use Rattle.opening.specs.Fault.{is-fit}
 use mathlib.Core.Path.{sym, _∙_}
 use borrow.Author.Needs.{needs}
 use Rattle.block.proofs.placing.allocate.Statement.{statement}

@@ -3,7 +3,7 @@ use Prim.Native.Nat.{_^_, _<_}
 use native.Mathlib.Omega.{arith}
 use denote.Ref.{now}
 use Rattle.laws.specs.Tests.{failed, passed}
-use Rattle.search.specs.Requests.{requestOf}
+use Rattle.sub_allocator.specs.Requests.{requestOf}
 use Rattle.search.specs.Held.{HeldIn, held-slot}
 use Rattle.search.proofs.Searching.{Searching, begin, held, done, better-size, go-better, go-worse, ahead, ahead-falls}
 use Rattle.search.proofs.best.best.Statement.{statement}

@@ -1,5 +1,5 @@
 -- `search::best::is_better` meets its contract. Assumes nothing.
-use Rattle.search.specs.Requests.{requestOf}
+use Rattle.sub_allocator.specs.Requests.{requestOf}
 use Rattle.search.specs.Held.{held-slot}
 use Rattle.search.proofs.BetterWays.{out-of-range, not-free, if-fits}
 use borrow.Author.Needs.{needs}

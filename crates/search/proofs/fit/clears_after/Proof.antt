@@ -1,6 +1,6 @@
 -- `search::fit::clears_after` meets its contract. Assumes nothing.
 use native.Mathlib.Omega.{arith}
-use Rattle.search.specs.Requests.{requestOf, fault-free}
+use Rattle.sub_allocator.specs.Requests.{requestOf, fault-free}
 use Rattle.search.specs.Fit.{held-next}
 use Rattle.search.specs.Held.{held-slot}
 use Rattle.search.proofs.PageWays.{none-after, kinds-after, page-after}

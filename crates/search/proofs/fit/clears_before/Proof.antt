@@ -1,5 +1,5 @@
 -- `search::fit::clears_before` meets its contract. Assumes nothing.
-use Rattle.search.specs.Requests.{requestOf, fault-free}
+use Rattle.sub_allocator.specs.Requests.{requestOf, fault-free}
 use Rattle.search.specs.Fit.{held-previous}
 use Rattle.search.specs.Held.{held-slot, held-end}
 use Rattle.search.proofs.PageWays.{none-before, kinds-before, page-before}

@@ -3,7 +3,7 @@ use Prim.Native.Nat.{_+_, _^_, _≤_, _<_}
 use native.Mathlib.Omega.{arith}
 use borrow.Author.Needs.{needs}
 use Rattle.model.specs.Requests.{Words}
-use Rattle.search.specs.Requests.{requestOf}
+use Rattle.sub_allocator.specs.Requests.{requestOf}
 use Rattle.search.specs.Held.{held-slot}
 use Rattle.search.proofs.Offsets.{ends, too-long, long-enough}
 use Rattle.search.proofs.fit.fits.Statement.{statement}

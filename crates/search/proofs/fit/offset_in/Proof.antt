@@ -1,7 +1,7 @@
 -- `search::fit::offset_in` meets its contract. Assumes nothing.
 use borrow.Author.Needs.{needs}
 use Rattle.model.specs.Requests.{Words}
-use Rattle.search.specs.Requests.{requestOf}
+use Rattle.sub_allocator.specs.Requests.{requestOf}
 use Rattle.search.specs.Held.{held-slot, held-low}
 use Rattle.search.proofs.Offsets.{aligns, raises, offset-kept, offset-raised}
 use Rattle.search.proofs.fit.offset_in.Statement.{statement}

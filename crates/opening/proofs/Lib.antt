@@ -1,0 +1,3 @@
+-- The laws that the proofs of `opening` share. Assumes nothing.
+pub mod Made
+pub mod Asked

@@ -1,0 +1,2 @@
+-- The ways out of the test of a request.
+pub mod Faults

@@ -1,0 +1,3 @@
+-- What a block of either kind is asked, and what it answers.
+pub mod Requests
+pub mod Answers

@@ -1,0 +1,35 @@
+-- A request as the model takes it, and what is known of one without a fault. Assumes nothing.
+use Prim.Native.Nat.{ℕ, _≤_}
+use mathlib.Core.Bool.{true}
+use mathlib.Core.Path.{_≡_, refl}
+use borrow.Author.Tests.{eq-eqb}
+use Rattle.laws.specs.Powers.{Pow2, ones-of-pow2}
+use Rattle.pages.specs.Pages.{isPowerOfTwo}
+use Rattle.model.specs.Placing.{Request, fault}
+use Rattle.model.specs.Requests.{no-fault}
+use Rattle.sub_allocator.specs.declared.request.Request as declared
+
+abbrev pub requestOf : declared.Request → Request
+requestOf r = record {
+  size = r .size;
+  alignment = r .alignment;
+  kind = r .kind;
+  granularity = r .granularity;
+  label = r .label;
+}
+
+-- Each field of it is the code's own.
+pub fields-kept : (r : declared.Request) → (requestOf r .size ≡ r .size) × (requestOf r .alignment ≡ r .alignment)
+    × (requestOf r .kind ≡ r .kind) × (requestOf r .granularity ≡ r .granularity) × (requestOf r .label ≡ r .label)
+fields-kept r = (refl, refl, refl, refl, refl)
+
+power : {x : ℕ} → Pow2 x → isPowerOfTwo x ≡ true
+unfolding isPowerOfTwo
+power {x} p = eq-eqb _ _ (ones-of-pow2 x p)
+
+-- Of a request without a fault the tests of its parts pass.
+pub fault-free : (r : Request) → fault r ≡ 0
+    → (1 ≤ r .size) × (isPowerOfTwo (r .alignment) ≡ true) × (isPowerOfTwo (r .granularity) ≡ true)
+fault-free r e =
+    let h = no-fault r .0 e in
+    (h .size, power (h .alignment), power (h .granularity))
