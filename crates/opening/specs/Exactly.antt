@@ -82,37 +82,48 @@ module _ (ws : List ℕ) (size : ℕ) where
       (λ t q. (inl (sym (ap number q)), refl)) (λ w s q. (inr (sym (ap number q)), refl))
       (λ w a b q. absurd (not-refused q)) e
 
--- ---- allocated and is_empty: when they are refused
+-- ---- a question: when it is refused
 
 module _ {A : Type 0} (f : Block → A) (ws : List ℕ) where
   never : (b : Block) (n : ℕ) → accepted (f b) ≡ refused n → 3 ≤ n
   never b n e = absurd (not-refused e)
 
-  asked-refused : (n : ℕ) → onTable (λ b. accepted (f b)) (decode ws) ≡ refused n → (n ≡ 1) ⊎ (n ≡ 2)
+  -- A question gives 1 exactly when the word count is not 4 + 7s.
+  pub asked-refused-1 : onTable (λ b. accepted (f b)) (decode ws) ≡ refused 1 ↔ (TableWords ws → ⊥)
+  asked-refused-1 = call-refused-1 _ ws never
+
+  -- It gives 2 exactly when it is, and the table is not sound.
+  pub asked-refused-2 : onTable (λ b. accepted (f b)) (decode ws) ≡ refused 2 ↔ (TableWords ws × (Sound ws → ⊥))
+  asked-refused-2 = call-refused-2 _ ws never
+
+  -- It gives no other number.
+  pub asked-refused : (n : ℕ) → onTable (λ b. accepted (f b)) (decode ws) ≡ refused n → (n ≡ 1) ⊎ (n ≡ 2)
   asked-refused n e =
       ⊎-elim inl (⊎-elim inr (λ h. absurd (not-refused (h .2))))
       (call-refused-later (λ b. accepted (f b)) ws never n e)
+
+-- ---- allocated and is_empty: when they are refused
 
 module _ (ws : List ℕ) where
   -- `allocated` gives 1 exactly when the word count is not 4 + 7s.
   pub allocated-refused-1 : allocatedOn ws ≡ refused 1 ↔ (TableWords ws → ⊥)
   unfolding allocatedOn
-  allocated-refused-1 = call-refused-1 _ ws (never (λ b. allocated (b .chunks)) ws)
+  allocated-refused-1 = asked-refused-1 (λ b. allocated (b .chunks)) ws
 
   -- So does `is_empty`.
   pub empty-refused-1 : isEmptyOn ws ≡ refused 1 ↔ (TableWords ws → ⊥)
   unfolding isEmptyOn
-  empty-refused-1 = call-refused-1 _ ws (never (λ b. eqb (allocated (b .chunks)) 0) ws)
+  empty-refused-1 = asked-refused-1 (λ b. eqb (allocated (b .chunks)) 0) ws
 
   -- `allocated` gives 2 exactly when it is, and the table is not sound.
   pub allocated-refused-2 : allocatedOn ws ≡ refused 2 ↔ (TableWords ws × (Sound ws → ⊥))
   unfolding allocatedOn
-  allocated-refused-2 = call-refused-2 _ ws (never (λ b. allocated (b .chunks)) ws)
+  allocated-refused-2 = asked-refused-2 (λ b. allocated (b .chunks)) ws
 
   -- So does `is_empty`.
   pub empty-refused-2 : isEmptyOn ws ≡ refused 2 ↔ (TableWords ws × (Sound ws → ⊥))
   unfolding isEmptyOn
-  empty-refused-2 = call-refused-2 _ ws (never (λ b. eqb (allocated (b .chunks)) 0) ws)
+  empty-refused-2 = asked-refused-2 (λ b. eqb (allocated (b .chunks)) 0) ws
 
   -- No other number is given by `allocated`.
   pub allocated-refused : (n : ℕ) → allocatedOn ws ≡ refused n → (n ≡ 1) ⊎ (n ≡ 2)

@@ -30,8 +30,9 @@ table-exactly ws = (
 )
 
 module _ {A : Type 0} (f : Block → Reply A) (ws : List ℕ) where
-  -- the three kinds of words: those of no table, those of a table that breaks a rule, and those of a sound one
-  looked : (P : Reply A → Type 0) → ((TableWords ws → ⊥) → P (refused 1))
+  -- What holds of the answer on each of the three kinds of words, those of no table, those of a table that breaks a rule and
+  -- those of a sound one, holds of the answer.
+  pub looked : (P : Reply A → Type 0) → ((TableWords ws → ⊥) → P (refused 1))
       → (TableWords ws → (Sound ws → ⊥) → P (refused 2)) → (TableWords ws → Sound ws → P (f (blockOf ws)))
       → P (onTable f (decode ws))
   looked P f1 f2 whole =

@@ -3,24 +3,23 @@
 use Prim.Native.Nat.{ℕ, _+_, _-_, _^_, _≤_, _<_}
 use native.Mathlib.Omega.{arith}
 use mathlib.Core.Bool.{Bool, true, false, cond}
-use mathlib.Core.List.{List, [], _∷_, reverseAux}
+use mathlib.Core.List.{List, [], _∷_}
 use mathlib.Core.Logic.{_≢_, ⊎-elim}
 use mathlib.Core.Option.{Option, none, some}
-use mathlib.Core.Path.{_≡_, refl, sym, ap, subst, _∙_}
-use borrow.Author.Tests.{ltb-true, ltb-false, lt-ltb, le-ltb, leb-true, le-leb, eqb-true, eq-eqb, eqb-false, ne-eqb}
-use lib.Dec.{eqb, leb, ltb}
+use mathlib.Core.Path.{_≡_, refl, sym, ap, _∙_}
+use borrow.Author.Tests.{ltb-true, ltb-false, lt-ltb, le-ltb, leb-true, le-leb, eqb-true, eq-eqb}
+use lib.Dec.{leb, ltb}
 use Rattle.laws.specs.Every.{pass, more, two, cases, clash}
-use Rattle.laws.specs.Tests.{both, both-pass, cond-cases, either}
+use Rattle.laws.specs.Tests.{both, both-pass, either}
 use Rattle.pages.specs.Vulkan.{Resource}
 use Rattle.model.specs.Block.{Chunk, Spot, first, isFree, spots}
 use Rattle.model.specs.Placing.{Request, takenAt, fitsAt, holds, smaller, best as bestOf, chosen, chunkBefore, chunkAfter}
 use Rattle.table.specs.Layout.{firstSlot, sizeAt, firstByteAt, kindAt, nextAt}
-use Rattle.words.specs.Words.{slotOf, chunksOf, blockOf, sound}
-use Rattle.words.specs.Linked.{linked-slot}
-use Rattle.words.specs.Spots.{InSlot, sound-spot, in-table, in-words}
-use Rattle.words.specs.Written.{known}
+use Rattle.words.specs.Words.{blockOf, sound}
+use Rattle.words.specs.Spots.{InSlot, in-words}
+use Rattle.search.specs.Along.{Along, along-first, along-here, along-next, along-held, along-end}
 use Rattle.search.specs.Best.{bestSlot, betterAt}
-use Rattle.search.specs.Fit.{beforeAt, afterAt, before-chunk, after-chunk, next-first}
+use Rattle.search.specs.Fit.{beforeAt, afterAt, before-chunk, after-chunk}
 use Rattle.search.specs.Found.{slotOfSpot}
 use Rattle.search.specs.Held.{HeldIn, in-bytes}
 
@@ -125,8 +124,7 @@ pub record Searching (ws : List ℕ) (r : Request) (k best spare : ℕ) : Type 0
   left : List Chunk
   right : List Chunk
   so-far : Option Spot
-  whole : reverseAux left right ≡ blockOf ws .chunks
-  next : k ≡ slotOf right
+  along : Along ws k left right
   choice : keepBest so-far (bestOf (holds r) (spots left right)) ≡ chosen r (blockOf ws)
   noted : Noted so-far best (spare + r .size)
   pub word : spare + r .size < 2 ^ 64
@@ -134,13 +132,11 @@ pub record Searching (ws : List ℕ) (r : Request) (k best spare : ℕ) : Type 0
 -- It begins with the first chunk, and with none chosen.
 pub begin : (ws : List ℕ) (r : Request) (k spare : ℕ) → sound ws ≡ true → k ≡ firstSlot ws → 2 ^ 40 < spare + r .size
     → spare + r .size < 2 ^ 64 → Searching ws r k 0 spare
-unfolding blockOf
 begin ws r k spare s e l m = record {
   left = [];
-  right = chunksOf ws;
+  right = blockOf ws .chunks;
   so-far = none;
-  whole = refl;
-  next = e ∙ linked-slot ws 0 (firstSlot ws) 0 (chunksOf ws) (known ws s .links);
+  along = along-first ws s k e;
   choice = refl;
   noted = (refl, l);
   word = m;
@@ -150,46 +146,35 @@ module _ (ws : List ℕ) (s : sound ws ≡ true) (r : Request) (k best spare : �
   abbrev least : ℕ
   least = spare + r .size
 
-  -- the chunk in slot k is the first of those on the right
-  here : (left cs : List Chunk) (c : Chunk) → reverseAux left (c ∷ cs) ≡ blockOf ws .chunks → k ≡ c .slot
-      → InSlot ws k (record { left = left; chunk = c; right = cs })
-  here left cs c w e =
-      subst (λ (j : ℕ). InSlot ws j (record { left = left; chunk = c; right = cs })) (sym e) (sound-spot ws s _ w)
-
   -- A slot other than 0 holds a chunk.
   pub held : Searching ws r k best spare → k ≢ 0 → HeldIn ws k
-  held h n = go (h .right) (h .whole) (h .next)
-    where
-      go : (right : List Chunk) → reverseAux (h .left) right ≡ blockOf ws .chunks → k ≡ slotOf right → HeldIn ws k
-      go [] w e = absurd (n e)
-      go (c ∷ cs) w e = (_, here (h .left) cs c w e)
+  held h n = along-held ws s k (h .left) (h .right) (h .along) n
 
   -- At slot 0 all were looked at.
   pub done : Searching ws r k best spare → k ≡ 0 → best ≡ bestSlot ws r
   unfolding bestSlot
-  done h z = go (h .right) (h .whole) (h .next) (h .choice)
+  done h z =
+      let e = along-end ws s k (h .left) (h .right) (h .along) z in
+      noted-slot (h .so-far) (h .noted)
+      ∙ ap slotOfSpot
+      (sym (keep-none (h .so-far))
+      ∙ ap (λ (cs : List Chunk). keepBest (h .so-far) (bestOf (holds r) (spots (h .left) cs))) (sym e)
+      ∙ h .choice)
     where
       noted-slot : (o : Option Spot) → Noted o best least → best ≡ slotOfSpot o
       noted-slot none q = q .0
       noted-slot (some x) q = q .0
 
-      go : (right : List Chunk) → reverseAux (h .left) right ≡ blockOf ws .chunks → k ≡ slotOf right
-          → keepBest (h .so-far) (bestOf (holds r) (spots (h .left) right)) ≡ chosen r (blockOf ws)
-          → best ≡ slotOfSpot (chosen r (blockOf ws))
-      go [] w e q = noted-slot (h .so-far) (h .noted) ∙ ap slotOfSpot (sym (keep-none (h .so-far)) ∙ q)
-      go (c ∷ cs) w e q = absurd (omega (arith, in-table ws k _ (here (h .left) cs c w e) .0))
-
   -- the search goes on at the next slot
-  on : (left cs : List Chunk) (c : Chunk) → reverseAux left (c ∷ cs) ≡ blockOf ws .chunks → k ≡ c .slot
+  on : (left cs : List Chunk) (c : Chunk) → Along ws k left (c ∷ cs)
       → (o : Option Spot) (b l : ℕ) → Noted o b (l + r .size) → l + r .size < 2 ^ 64
       → keepBest o (bestOf (holds r) (spots (c ∷ left) cs)) ≡ chosen r (blockOf ws)
       → Searching ws r (nextAt ws k) b l
-  on left cs c w e o b l q m x = record {
+  on left cs c a o b l q m x = record {
     left = c ∷ left;
     right = cs;
     so-far = o;
-    whole = w;
-    next = in-words (here left cs c w e) .next;
+    along = along-next ws s k left c cs a;
     choice = x;
     noted = q;
     word = m;
@@ -203,66 +188,51 @@ module _ (ws : List ℕ) (s : sound ws ≡ true) (r : Request) (k best spare : �
   -- and is noted: it has its size, less that of the request, to spare.
   pub go-better : Searching ws r k best spare → k ≢ 0 → betterAt ws k least r ≡ true → (size : ℕ) → size ≡ sizeAt ws k
       → Searching ws r (nextAt ws k) k (size - r .size)
-  go-better h n t size d = go (h .right) (h .whole) (h .next) (h .choice)
+  go-better h n t size d = go (h .right) (h .along) (h .choice)
     where
       replaced : (o : Option Spot) (z : Spot) → Noted o best least → z .chunk .size < least → keepBest o (some z) ≡ some z
       replaced none z q l = refl
       replaced (some x) z q l = rw (lt-ltb (z .chunk .size) (x .chunk .size) (omega (arith, q .1)))
 
-      go : (right : List Chunk) → reverseAux (h .left) right ≡ blockOf ws .chunks → k ≡ slotOf right
+      go : (right : List Chunk) → Along ws k (h .left) right
           → keepBest (h .so-far) (bestOf (holds r) (spots (h .left) right)) ≡ chosen r (blockOf ws)
           → Searching ws r (nextAt ws k) k (size - r .size)
-      go [] w e q = absurd (n e)
-      go (c ∷ cs) w e q =
+      go [] a q = absurd (n (a .slot))
+      go (c ∷ cs) a q =
           let z : Spot = record { left = h .left; chunk = c; right = cs } in
-          let i = here (h .left) cs c w e in
+          let i = along-here ws s k (h .left) c cs a in
           let b = better ws k z i r least t in
-          let a : cond (holds r z) (keepBest (h .so-far) (some z)) (h .so-far) ≡ some z =
+          let x : cond (holds r z) (keepBest (h .so-far) (some z)) (h .so-far) ≡ some z =
           rw (b .0) (replaced (h .so-far) z (h .noted) (b .1)) in
           let f : size - r .size + r .size ≡ sizeAt ws k = omega (arith, better-size t) in
           let m = in-bytes ws k z i s in
-          on (h .left) cs c w e (some z) k (size - r .size) (e, f ∙ in-words i .size) (omega arith)
-          (ap (λ (o : Option Spot). keepBest o (bestOf (holds r) (spots (c ∷ h .left) cs))) (sym a)
+          on (h .left) cs c a (some z) k (size - r .size) (a .slot, f ∙ in-words i .size) (omega arith)
+          (ap (λ (o : Option Spot). keepBest o (bestOf (holds r) (spots (c ∷ h .left) cs))) (sym x)
           ∙ sym (keep-step (holds r) (h .so-far) z (spots (c ∷ h .left) cs)) ∙ q)
 
   -- Any other is passed over.
   pub go-worse : Searching ws r k best spare → k ≢ 0 → betterAt ws k least r ≡ false
       → Searching ws r (nextAt ws k) best spare
-  go-worse h n t = go (h .right) (h .whole) (h .next) (h .choice)
+  go-worse h n t = go (h .right) (h .along) (h .choice)
     where
       kept : (o : Option Spot) (z : Spot) → Noted o best least → z .chunk .size ≤ 2 ^ 40 → least ≤ z .chunk .size
           → keepBest o (some z) ≡ o
       kept none z q m l = absurd (omega (arith, q .1))
       kept (some x) z q m l = rw (le-ltb (z .chunk .size) (x .chunk .size) (omega (arith, q .1)))
 
-      go : (right : List Chunk) → reverseAux (h .left) right ≡ blockOf ws .chunks → k ≡ slotOf right
+      go : (right : List Chunk) → Along ws k (h .left) right
           → keepBest (h .so-far) (bestOf (holds r) (spots (h .left) right)) ≡ chosen r (blockOf ws)
           → Searching ws r (nextAt ws k) best spare
-      go [] w e q = absurd (n e)
-      go (c ∷ cs) w e q =
+      go [] a q = absurd (n (a .slot))
+      go (c ∷ cs) a q =
           let z : Spot = record { left = h .left; chunk = c; right = cs } in
-          let i = here (h .left) cs c w e in
+          let i = along-here ws s k (h .left) c cs a in
           let m = in-bytes ws k z i s in
-          let a : cond (holds r z) (keepBest (h .so-far) (some z)) (h .so-far) ≡ h .so-far =
+          let x : cond (holds r z) (keepBest (h .so-far) (some z)) (h .so-far) ≡ h .so-far =
           ⊎-elim
           (λ p. rw p (kept (h .so-far) z (h .noted) (omega (arith, in-words i .size)) (worse ws k z i r least t p)))
           (λ p. rw p)
           (cases (holds r z)) in
-          on (h .left) cs c w e (h .so-far) best spare (h .noted) (h .word)
-          (ap (λ (o : Option Spot). keepBest o (bestOf (holds r) (spots (c ∷ h .left) cs))) (sym a)
+          on (h .left) cs c a (h .so-far) best spare (h .noted) (h .word)
+          (ap (λ (o : Option Spot). keepBest o (bestOf (holds r) (spots (c ∷ h .left) cs))) (sym x)
           ∙ sym (keep-step (holds r) (h .so-far) z (spots (c ∷ h .left) cs)) ∙ q)
-
--- ---- the loop ends
-
--- what is left of the addresses, from slot k on
-abbrev pub ahead : List ℕ → ℕ → ℕ
-ahead ws k = cond (eqb k 0) 0 (2 ^ 64 - firstByteAt ws k)
-
--- It falls from slot to slot.
-pub ahead-falls : (ws : List ℕ) → sound ws ≡ true → (k : ℕ) → HeldIn ws k → k ≢ 0 → ahead ws (nextAt ws k) < ahead ws k
-ahead-falls ws s k h n =
-    let b = in-bytes ws k (h .0) (h .1) s in
-    rw (ne-eqb k 0 n)
-    (cond-cases (λ (x : ℕ). x < 2 ^ 64 - firstByteAt ws k) (eqb (nextAt ws k) 0)
-    (λ e. omega arith)
-    (λ e. omega (arith, next-first ws k h (eqb-false _ _ e))))

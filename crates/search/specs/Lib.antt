@@ -5,4 +5,5 @@ pub mod Empty
 pub mod Found
 pub mod Live
 pub mod Fit
+pub mod Along
 pub mod Best

@@ -4,8 +4,9 @@ use native.Mathlib.Omega.{arith}
 use denote.Ref.{now}
 use Rattle.laws.specs.Tests.{failed, passed}
 use Rattle.sub_allocator.specs.Requests.{requestOf}
+use Rattle.search.specs.Along.{ahead, ahead-falls}
 use Rattle.search.specs.Held.{HeldIn, held-slot}
-use Rattle.search.proofs.Searching.{Searching, begin, held, done, better-size, go-better, go-worse, ahead, ahead-falls}
+use Rattle.search.proofs.Searching.{Searching, begin, held, done, better-size, go-better, go-worse}
 use Rattle.search.proofs.best.best.Statement.{statement}
 use Rattle.search.proofs.best.best.Tie as tie
 

@@ -1,0 +1,3 @@
+-- The laws that the proofs of `leaks` share. Assumes nothing.
+pub mod Finding
+pub mod Handing

@@ -1,0 +1,83 @@
+-- When a walk is refused, with which number, and where a step leaves the place. Assumes nothing.
+use Prim.Native.Nat.{ℕ, zero, suc, _+_}
+use mathlib.Core.List.{List, _∷_}
+use mathlib.Core.Logic.{_↔_, _⊎_, _≢_}
+use mathlib.Core.Option.{Option, none, some}
+use mathlib.Core.Path.{_≡_, refl, sym, ap}
+use denote.Ref.{RefT, now}
+use lib.ListN.{replicate}
+use Rattle.laws.specs.Reply.{Reply, accepted, refused}
+use Rattle.words.specs.Soundness.{Sound}
+use Rattle.words.specs.Checked.{sound-exactly}
+use Rattle.opening.specs.Fault.{no-fault, is-fit, unfit}
+use Rattle.opening.specs.Looked.{TableWords, table-exactly}
+use Rattle.opening.specs.Exactly.{asked-refused-1, asked-refused-2, asked-refused}
+use Rattle.leaks.specs.Leaks.{Live, handedOut, liveFrom, leakOn, placeAfter, stepOn}
+use Rattle.leaks.specs.Walks.{startOf}
+use Rattle.leaks.specs.Walked.{walkOn}
+
+-- ---- what is answered from an address on
+
+module _ (ws : List ℕ) (address : ℕ) where
+  -- 1 exactly when the word count is not 4 + 7s.
+  pub leak-refused-1 : leakOn ws address ≡ refused 1 ↔ (TableWords ws → ⊥)
+  unfolding leakOn
+  leak-refused-1 = asked-refused-1 (λ b. handedOut (liveFrom address b)) ws
+
+  -- 2 exactly when it is, and the table is not sound.
+  pub leak-refused-2 : leakOn ws address ≡ refused 2 ↔ (TableWords ws × (Sound ws → ⊥))
+  unfolding leakOn
+  leak-refused-2 = asked-refused-2 (λ b. handedOut (liveFrom address b)) ws
+
+  -- No other number is given.
+  pub leak-refused : (n : ℕ) → leakOn ws address ≡ refused n → (n ≡ 1) ⊎ (n ≡ 2)
+  unfolding leakOn
+  leak-refused = asked-refused (λ b. handedOut (liveFrom address b)) ws
+
+-- ---- a step
+
+module _ (ws : List ℕ) (place : ℕ) where
+  -- A step from a place answers what is found from that address on.
+  pub step-answers : stepOn ws place .0 ≡ leakOn ws place
+  unfolding stepOn
+  step-answers = refl
+
+  -- A refused step keeps the place.
+  pub step-refused-keeps : (n : ℕ) → stepOn ws place .0 ≡ refused n → stepOn ws place .1 ≡ place
+  unfolding stepOn
+  step-refused-keeps n e = ap (placeAfter place) e
+
+  -- So does one that answers the end.
+  pub step-end-keeps : stepOn ws place .0 ≡ accepted none → stepOn ws place .1 ≡ place
+  unfolding stepOn
+  step-end-keeps e = ap (placeAfter place) e
+
+  -- One that hands out a chunk moves the place to its end.
+  pub step-live-moves : (l : Live) → stepOn ws place .0 ≡ accepted (some l) → stepOn ws place .1 ≡ l .first + l .size
+  unfolding stepOn
+  step-live-moves l e = ap (placeAfter place) e
+
+  -- Steps on words that are refused are all refused alike.
+  pub walk-refused : (n m : ℕ) → leakOn ws place ≡ refused m → walkOn ws place n ≡ replicate n (refused m)
+  unfolding stepOn
+  walk-refused zero m e = refl
+  walk-refused (suc n) m e =
+      rw e (ap (λ (r : List (Reply (Option Live))). refused m ∷ r) (walk-refused n m e))
+
+-- ---- the start
+
+module _ (words : RefT (List ℕ)) where
+  abbrev ws : List ℕ
+  ws = now words
+
+  -- A walk starts with fault 0 exactly when the words are a sound table's.
+  pub start-0 : startOf words .fault ≡ 0 ↔ (TableWords ws × Sound ws)
+  start-0 = (
+    λ e. let h = is-fit ws e in (table-exactly ws .0 (h .0), sound-exactly ws (h .0) .0 (h .1)),
+    λ h. let t = table-exactly ws .1 (h .0) in sym (no-fault ws t (sound-exactly ws t .1 (h .1))),
+  )
+
+  -- Any other fault is what each step is refused with.
+  pub start-refused : startOf words .fault ≢ 0 → (place : ℕ) → leakOn ws place ≡ refused (startOf words .fault)
+  unfolding leakOn
+  start-refused n place = unfit ws _ n
