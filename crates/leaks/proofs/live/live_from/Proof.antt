@@ -1,6 +1,7 @@
 -- `leaks::live::live_from` meets its contract. Assumes nothing.
-use mathlib.Core.Path.{sym, _∙_}
+use mathlib.Core.Path.{sym, ap, _∙_}
 use borrow.Author.Needs.{needs}
+use Rattle.laws.specs.Reply.{refused}
 use Rattle.opening.specs.Fault.{is-fit}
 use Rattle.leaks.proofs.Handing.{not-looked, at-end, held-from, handed}
 use Rattle.leaks.proofs.live.live_from.Statement.{statement}
@@ -10,7 +11,7 @@ table-fault-requires : tie.Need-table-fault-requires
 table-fault-requires c κs = search needs
 
 returns : tie.Need-returns
-returns c = rw (c .before .table-fault .ensures) (not-looked _ _ (λ e. c .if1 .taken (c .before .table-fault .ensures ∙ e)))
+returns c = ap refused (c .before .table-fault .ensures) ∙ not-looked _ _ (λ e. c .if1 .taken (c .before .table-fault .ensures ∙ e))
 
 slot-from-requires : tie.Need-slot-from-requires
 slot-from-requires c κs = is-fit _ (sym (c .before .table-fault .ensures) ∙ c .if1 .left)

@@ -1,0 +1,4 @@
+-- What the contracts of this part of the boundary cite.
+pub mod DedicatedCalls
+pub mod DedicatedKept
+pub mod DedicatedExamples
