@@ -3,13 +3,15 @@
  *
  * Answers. A function that returns a number returns 0 when it accepts the call and a refusal's number when it does not.
  * Where several faults meet, the one that is named first below is answered. A refused call sets its out-values to zeros
- * and leaves `buf` and `words` as they were. What an out-value held before the call never matters.
+ * and leaves `buf`, `words`, `record` and the `place` of a step as they were. What an out-value held before the call
+ * never matters.
  *
  * Pointers. No pointer may be NULL. Each points to memory of the caller, aligned as its type asks, that is there for the
- * whole call: one value behind `written`, `size`, `offset`, `id`, `allocated` and `is_empty`, four behind `sizes`,
- * `buf_len` bytes behind `buf`, `words_len` words behind `words`. Where `buf_len` or `words_len` is 0 nothing is read or
- * written behind `buf` or `words`, and any pointer that is not NULL will do. Two pointers of one call must not reach the
- * same memory. Nothing is kept after the call, and there is no state: any thread may call at any time.
+ * whole call: one value behind `written`, `size`, `offset`, `id`, `allocated`, `is_empty` and `place`, three behind
+ * `record` and `report`, four behind `sizes`, five behind `leak`, `buf_len` bytes behind `buf`, `words_len` words behind
+ * `words`. Where `buf_len` or `words_len` is 0 nothing is read or written behind `buf` or `words`, and any pointer that is
+ * not NULL will do. Two pointers of one call must not reach the same memory. Nothing is kept after the call, and there is
+ * no state: any thread may call at any time.
  */
 #ifndef LUNKASEYO_H
 #define LUNKASEYO_H
@@ -102,6 +104,59 @@ uint64_t lunkaseyo_block_allocated(const uint64_t *words, size_t words_len, uint
 
 /* 1 where nothing is allocated, 0 where something is. Refusals: 1, 2. */
 uint64_t lunkaseyo_block_is_empty(const uint64_t *words, size_t words_len, uint64_t *is_empty);
+
+/*
+ * The leak walk hands out the live chunks of a block's table, one at a time by rising address. It keeps nothing but its
+ * `place`, an address from which on nothing was handed out yet, in one word of the caller. Every number is a place, and
+ * the table may change between two steps: a step goes by the words and the place that it is given. Words that are no
+ * table, and a table that is not sound, are refused as above, at the start and at each step.
+ */
+
+/* The place at which a walk starts: 0. Refusals: 1, 2. */
+uint64_t lunkaseyo_leaks_start(const uint64_t *words, size_t words_len, uint64_t *place);
+
+/*
+ * The first live chunk that begins at the place or later: `leak` gets its id, first byte, size with padding, kind and
+ * label, in this order, and the place becomes its end. Where there is none the walk is over, which is no refusal: `leak`
+ * gets five zeros, and no live chunk has id 0; the place stays. Refusals: 1, 2.
+ */
+uint64_t lunkaseyo_leaks_step(const uint64_t *words, size_t words_len, uint64_t *place, uint64_t leak[5]);
+
+/*
+ * A dedicated block holds one allocation, which takes all of it. It is a record in three words of the caller: block size,
+ * bytes allocated, label. As with a table the words are all that there is of it, and a record that is not sound is
+ * refusal 2. Sound means: block size at least 1; bytes allocated 0 or the block size.
+ */
+
+/* A new block of `size` bytes, free, with label 0: every word is written, whatever it held. Refusal: 13 the size is 0. */
+uint64_t lunkaseyo_dedicated_new(uint64_t record[3], uint64_t size);
+
+/*
+ * Hands out the whole block, which gets the label: the `offset` is 0 and the `id` is 1. Alignment, granularity and kind
+ * change nothing, but have to be well-formed.
+ * Refusals: 2, 3 the size is 0, 4 the alignment is not a power of two, 5 the granularity is not, 6 the kind is neither 1
+ * nor 2, 11 the block is occupied, 12 the size is not that of the block.
+ */
+uint64_t lunkaseyo_dedicated_allocate(uint64_t record[3], uint64_t size, uint64_t alignment, uint64_t kind,
+                                      uint64_t granularity, uint64_t label, uint64_t *offset, uint64_t *id);
+
+/* Gives the block back, which keeps its label. Accepted when it is empty already. Refusals: 2, 18 the id is not 1. */
+uint64_t lunkaseyo_dedicated_free(uint64_t record[3], uint64_t id);
+
+/* Gives the block another label, whether or not it is occupied. Refusals: 2, 18 the id is not 1. */
+uint64_t lunkaseyo_dedicated_rename_allocation(uint64_t record[3], uint64_t id, uint64_t label);
+
+/* The bytes that are allocated: none, or the block size. Refusal: 2. */
+uint64_t lunkaseyo_dedicated_allocated(const uint64_t record[3], uint64_t *allocated);
+
+/* 1 where nothing is allocated, 0 where something is. Refusal: 2. */
+uint64_t lunkaseyo_dedicated_is_empty(const uint64_t record[3], uint64_t *is_empty);
+
+/*
+ * The one entry that a dedicated block always has, occupied or not: `report` gets first byte 0, the block size and the
+ * label, in this order. Refusal: 2.
+ */
+uint64_t lunkaseyo_dedicated_report_allocations(const uint64_t record[3], uint64_t report[3]);
 
 #ifdef __cplusplus
 }

@@ -73,6 +73,14 @@ pub enum Kind {
     NonLinear = 2,
 }
 
+impl Kind {
+    /// The kind that a number stands for.
+    pub(crate) fn of(number: u64) -> Option<Self> {
+        let kinds = [Self::Linear, Self::NonLinear];
+        kinds.into_iter().find(|&kind| kind as u64 == number)
+    }
+}
+
 /// Memory that a block has handed out.
 #[derive(Clone, Copy, Debug, PartialEq, Eq, Hash)]
 pub struct Allocation {

@@ -10,8 +10,17 @@ pub type Words = [u64; 4];
 /// What a block is asked for, as it crosses: size, alignment, kind, granularity, label.
 pub type Request = [u64; 5];
 
+/// A live chunk as it crosses: id, first byte, size, kind, label.
+pub type Leak = [u64; 5];
+
+/// The record of a dedicated block: size, bytes allocated, label.
+pub type Record = [u64; 3];
+
+/// What a dedicated block reports, as it crosses: first byte, size, label.
+pub type Report = [u64; 3];
+
 mod archive {
-    use super::Words;
+    use super::{Leak, Record, Report, Words};
 
     extern "C" {
         pub fn lunkaseyo_fmt_bytes(
@@ -80,6 +89,33 @@ mod archive {
             words_len: usize,
             is_empty: &mut u64,
         ) -> u64;
+        pub fn lunkaseyo_leaks_start(words: *const u64, words_len: usize, place: &mut u64) -> u64;
+        pub fn lunkaseyo_leaks_step(
+            words: *const u64,
+            words_len: usize,
+            place: &mut u64,
+            leak: &mut Leak,
+        ) -> u64;
+        pub fn lunkaseyo_dedicated_new(record: &mut Record, size: u64) -> u64;
+        pub fn lunkaseyo_dedicated_allocate(
+            record: &mut Record,
+            size: u64,
+            alignment: u64,
+            kind: u64,
+            granularity: u64,
+            label: u64,
+            offset: &mut u64,
+            id: &mut u64,
+        ) -> u64;
+        pub fn lunkaseyo_dedicated_free(record: &mut Record, id: u64) -> u64;
+        pub fn lunkaseyo_dedicated_rename_allocation(
+            record: &mut Record,
+            id: u64,
+            label: u64,
+        ) -> u64;
+        pub fn lunkaseyo_dedicated_allocated(record: &Record, allocated: &mut u64) -> u64;
+        pub fn lunkaseyo_dedicated_is_empty(record: &Record, is_empty: &mut u64) -> u64;
+        pub fn lunkaseyo_dedicated_report_allocations(record: &Record, report: &mut Report) -> u64;
     }
 }
 
@@ -175,4 +211,66 @@ pub fn block_allocated(words: &[u64], allocated: &mut u64) -> u64 {
 /// `lunkaseyo_block_is_empty`
 pub fn block_is_empty(words: &[u64], is_empty: &mut u64) -> u64 {
     unsafe { archive::lunkaseyo_block_is_empty(words.as_ptr(), words.len(), is_empty) }
+}
+
+/// `lunkaseyo_leaks_start`
+pub fn leaks_start(words: &[u64], place: &mut u64) -> u64 {
+    unsafe { archive::lunkaseyo_leaks_start(words.as_ptr(), words.len(), place) }
+}
+
+/// `lunkaseyo_leaks_step`
+pub fn leaks_step(words: &[u64], place: &mut u64, leak: &mut Leak) -> u64 {
+    unsafe { archive::lunkaseyo_leaks_step(words.as_ptr(), words.len(), place, leak) }
+}
+
+/// `lunkaseyo_dedicated_new`
+pub fn dedicated_new(record: &mut Record, size: u64) -> u64 {
+    unsafe { archive::lunkaseyo_dedicated_new(record, size) }
+}
+
+/// `lunkaseyo_dedicated_allocate`
+pub fn dedicated_allocate(
+    record: &mut Record,
+    request: Request,
+    offset: &mut u64,
+    id: &mut u64,
+) -> u64 {
+    let [size, alignment, kind, granularity, label] = request;
+    unsafe {
+        archive::lunkaseyo_dedicated_allocate(
+            record,
+            size,
+            alignment,
+            kind,
+            granularity,
+            label,
+            offset,
+            id,
+        )
+    }
+}
+
+/// `lunkaseyo_dedicated_free`
+pub fn dedicated_free(record: &mut Record, id: u64) -> u64 {
+    unsafe { archive::lunkaseyo_dedicated_free(record, id) }
+}
+
+/// `lunkaseyo_dedicated_rename_allocation`
+pub fn dedicated_rename_allocation(record: &mut Record, id: u64, label: u64) -> u64 {
+    unsafe { archive::lunkaseyo_dedicated_rename_allocation(record, id, label) }
+}
+
+/// `lunkaseyo_dedicated_allocated`
+pub fn dedicated_allocated(record: &Record, allocated: &mut u64) -> u64 {
+    unsafe { archive::lunkaseyo_dedicated_allocated(record, allocated) }
+}
+
+/// `lunkaseyo_dedicated_is_empty`
+pub fn dedicated_is_empty(record: &Record, is_empty: &mut u64) -> u64 {
+    unsafe { archive::lunkaseyo_dedicated_is_empty(record, is_empty) }
+}
+
+/// `lunkaseyo_dedicated_report_allocations`
+pub fn dedicated_report_allocations(record: &Record, report: &mut Report) -> u64 {
+    unsafe { archive::lunkaseyo_dedicated_report_allocations(record, report) }
 }

@@ -2,6 +2,8 @@
 //!
 //! - [`Block`]: a free-list block, whose table lies in words of the caller. It is asked for memory by a
 //!   [`Request`], and gives an [`Allocation`].
+//! - [`Block::leaks`]: the memory that a block has handed out and not got back, a [`Leak`] at a time.
+//! - [`DedicatedBlock`]: a block that holds one allocation, which takes all of it.
 //! - [`AllocationSizes`]: how large the next memory block is to be.
 //! - [`fmt_bytes`] and [`byte_text`]: an amount of memory as text.
 //!
@@ -21,13 +23,17 @@
 #![deny(missing_docs, unsafe_code)]
 
 mod block;
+mod dedicated;
 #[allow(unsafe_code)]
 pub mod ffi;
+mod leaks;
 mod refusal;
 mod sizes;
 mod text;
 
 pub use block::{Allocation, Block, Kind, Request};
+pub use dedicated::{DedicatedBlock, Report};
+pub use leaks::{Leak, Leaks};
 pub use refusal::Refusal;
 pub use sizes::AllocationSizes;
 pub use text::{byte_text, fmt_bytes, ByteText};

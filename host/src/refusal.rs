@@ -23,7 +23,7 @@ impl Refusal {
     fn reason(self) -> &'static str {
         match self.number() {
             1 => "the number of words is not 4 + 7s for any s from 1 to 512 slots",
-            2 => "the chunk table is not sound",
+            2 => "the chunk table, or the record of a dedicated block, is not sound",
             3 => "the size is 0",
             4 => "the alignment is not a power of two",
             5 => "the granularity is not a power of two",
@@ -32,10 +32,13 @@ impl Refusal {
             8 => "a chunk would have to be split, and no id is left",
             9 => "a chunk would have to be split, and no slot is empty",
             10 => "no live chunk has this id",
+            11 => "the dedicated block is occupied",
+            12 => "the size is not that of the dedicated block",
             13 => "the block size is 0, or above 2^40 for a free-list block",
             14 => "the block-size rules cannot produce these sizes",
             15 => "the amount is 2^50 bytes or more",
             16 => "the buffer is too short for the text",
+            18 => "the id is not 1, the only one of a dedicated block",
             _ => "no reason is known for this number",
         }
     }

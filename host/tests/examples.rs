@@ -454,7 +454,10 @@ fn refusals_say_why() {
             size,
             "refusal 13: the block size is 0, or above 2^40 for a free-list block",
         ),
-        (unsound, "refusal 2: the chunk table is not sound"),
+        (
+            unsound,
+            "refusal 2: the chunk table, or the record of a dedicated block, is not sound",
+        ),
         (dead, "refusal 10: no live chunk has this id"),
     ] {
         assert_eq!(refusal.to_string(), why);

@@ -220,6 +220,132 @@ static void refused_blocks(void)
     EXPECT(lunkaseyo_block_is_empty(words, 11, &is_empty) == 2 && is_empty == 0);
 }
 
+/* Whether three words are these. */
+static int are(const uint64_t words[3], uint64_t a, uint64_t b, uint64_t c)
+{
+    return words[0] == a && words[1] == b && words[2] == c;
+}
+
+/* Whether the record is sound, with these words, and its questions answer by them. */
+static int is_dedicated(const uint64_t record[3], uint64_t size, uint64_t allocated, uint64_t label)
+{
+    uint64_t total, is_empty, report[3];
+
+    spoil(&total, 1);
+    spoil(&is_empty, 1);
+    spoil(report, 3);
+    return are(record, size, allocated, label) &&
+           lunkaseyo_dedicated_allocated(record, &total) == 0 && total == allocated &&
+           lunkaseyo_dedicated_is_empty(record, &is_empty) == 0 && is_empty == (allocated == 0) &&
+           lunkaseyo_dedicated_report_allocations(record, report) == 0 && are(report, 0, size, label);
+}
+
+static void calls_of_a_dedicated_block(void)
+{
+    uint64_t record[3], offset, id;
+
+    spoil(record, 3);
+    EXPECT(lunkaseyo_dedicated_new(record, UINT64_MAX) == 0 && is_dedicated(record, UINT64_MAX, 0, 0));
+    EXPECT(lunkaseyo_dedicated_rename_allocation(record, 1, 6) == 0 && is_dedicated(record, UINT64_MAX, 0, 6));
+
+    spoil(&offset, 1);
+    spoil(&id, 1);
+    EXPECT(lunkaseyo_dedicated_allocate(record, UINT64_MAX, 64, 2, 1024, 7, &offset, &id) == 0);
+    EXPECT(offset == 0 && id == 1 && is_dedicated(record, UINT64_MAX, UINT64_MAX, 7));
+    EXPECT(lunkaseyo_dedicated_rename_allocation(record, 1, 8) == 0);
+    EXPECT(is_dedicated(record, UINT64_MAX, UINT64_MAX, 8));
+
+    /* the label stays, and a block that is empty can be given back again */
+    EXPECT(lunkaseyo_dedicated_free(record, 1) == 0 && is_dedicated(record, UINT64_MAX, 0, 8));
+    EXPECT(lunkaseyo_dedicated_free(record, 1) == 0 && is_dedicated(record, UINT64_MAX, 0, 8));
+}
+
+/* The number of a request for a dedicated block that is refused, as with `refused`. */
+static uint64_t refused_dedicated(const uint64_t before[3], uint64_t size, uint64_t alignment, uint64_t kind,
+                                  uint64_t granularity)
+{
+    uint64_t record[3], offset, id, number;
+
+    memcpy(record, before, sizeof record);
+    spoil(&offset, 1);
+    spoil(&id, 1);
+    number = lunkaseyo_dedicated_allocate(record, size, alignment, kind, granularity, 7, &offset, &id);
+    return offset == 0 && id == 0 && memcmp(record, before, sizeof record) == 0 ? number : 0;
+}
+
+static void refused_dedicated_requests(void)
+{
+    const uint64_t unsound[3] = {4096, 5, 6}, occupied[3] = {4096, 4096, 6}, empty[3] = {4096, 0, 6};
+
+    /* each with every fault that comes after it */
+    EXPECT(refused_dedicated(unsound, 0, 3, 257, 3) == 2);
+    EXPECT(refused_dedicated(occupied, 0, 3, 257, 3) == 3);
+    EXPECT(refused_dedicated(occupied, 4095, 3, 257, 3) == 4);
+    EXPECT(refused_dedicated(occupied, 4095, 1, 257, 0) == 5);
+    EXPECT(refused_dedicated(occupied, 4095, 1, 257, 1) == 6);
+    EXPECT(refused_dedicated(occupied, 4095, 1, 1, 1) == 11);
+    EXPECT(refused_dedicated(empty, 4095, 1, 1, 1) == 12);
+}
+
+static void refused_dedicated_blocks(void)
+{
+    uint64_t record[3] = {4096, 5, 6}, allocated, is_empty, report[3];
+
+    EXPECT(lunkaseyo_dedicated_new(record, 0) == 13);
+    EXPECT(lunkaseyo_dedicated_free(record, 0) == 2);
+    EXPECT(lunkaseyo_dedicated_rename_allocation(record, 0, 7) == 2);
+    spoil(&allocated, 1);
+    EXPECT(lunkaseyo_dedicated_allocated(record, &allocated) == 2 && allocated == 0);
+    spoil(&is_empty, 1);
+    EXPECT(lunkaseyo_dedicated_is_empty(record, &is_empty) == 2 && is_empty == 0);
+    spoil(report, 3);
+    EXPECT(lunkaseyo_dedicated_report_allocations(record, report) == 2 && are(report, 0, 0, 0));
+    EXPECT(are(record, 4096, 5, 6));
+
+    record[1] = 4096;
+    EXPECT(lunkaseyo_dedicated_free(record, 0) == 18);
+    EXPECT(lunkaseyo_dedicated_free(record, 2) == 18);
+    EXPECT(lunkaseyo_dedicated_rename_allocation(record, 0, 7) == 18);
+    EXPECT(lunkaseyo_dedicated_rename_allocation(record, 2, 7) == 18);
+    EXPECT(are(record, 4096, 4096, 6));
+}
+
+/* Whether a step from this place answers this number and leak, and leaves this place and the words as they were. */
+static int steps(const uint64_t table[18], size_t words_len, uint64_t place, uint64_t number, const uint64_t leak[5],
+                 uint64_t after)
+{
+    uint64_t words[18], out[5];
+
+    memcpy(words, table, sizeof words);
+    spoil(out, 5);
+    return lunkaseyo_leaks_step(words, words_len, &place, out) == number && memcmp(out, leak, sizeof out) == 0 &&
+           place == after && memcmp(words, table, sizeof words) == 0;
+}
+
+static void leaks(void)
+{
+    /* linear 100, then the rest as non-linear, in the slots 2 and 1 */
+    const uint64_t filled[18] = {4096, 4096, 3, 2, 1, 3996, 100, 2, 9, 0, 2, 2, 100, 0, 1, 8, 1, 0};
+    const uint64_t first[5] = {2, 0, 100, 1, 8}, second[5] = {1, 100, 3996, 2, 9}, none[5] = {0, 0, 0, 0, 0};
+    uint64_t spoilt[18], place;
+
+    spoil(&place, 1);
+    EXPECT(lunkaseyo_leaks_start(filled, 18, &place) == 0 && place == 0);
+    EXPECT(steps(filled, 18, 0, 0, first, 100));
+    EXPECT(steps(filled, 18, 1, 0, second, 4096));
+    EXPECT(steps(filled, 18, 100, 0, second, 4096));
+    EXPECT(steps(filled, 18, 4096, 0, none, 4096));
+    EXPECT(steps(filled, 18, UINT64_MAX, 0, none, UINT64_MAX));
+
+    spoil(spoilt, 18);
+    spoil(&place, 1);
+    EXPECT(lunkaseyo_leaks_start(spoilt, 17, &place) == 1 && place == 0);
+    spoil(&place, 1);
+    EXPECT(lunkaseyo_leaks_start(spoilt, 18, &place) == 2 && place == 0);
+    EXPECT(steps(spoilt, 17, 7, 1, none, 7));
+    EXPECT(steps(spoilt, 18, 7, 2, none, 7));
+}
+
 int main(void)
 {
     text();
@@ -230,5 +356,9 @@ int main(void)
     calls_of_a_block();
     refused_requests();
     refused_ids();
+    leaks();
+    calls_of_a_dedicated_block();
+    refused_dedicated_requests();
+    refused_dedicated_blocks();
     return faults;
 }

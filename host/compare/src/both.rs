@@ -48,6 +48,16 @@ impl Both {
         &self.table
     }
 
+    /// The library's words.
+    pub fn words(&self) -> &[u64] {
+        &self.words
+    }
+
+    /// What the Rust reports of each live chunk, in any order.
+    pub fn reported(&self) -> Vec<(String, u64, u64)> {
+        self.block.reported()
+    }
+
     /// Sets the next id by hand, to one that is not below it.
     pub fn set_next_id(&mut self, next_id: u64) {
         self.words[head::NEXT_ID] = next_id;

@@ -11,7 +11,7 @@ pub use gpu_allocator::allocator::free_list_allocator::{
 pub use gpu_allocator::allocator::{
     fmt_bytes, AllocationType, DedicatedBlockAllocator, FreeListAllocator, SubAllocator,
 };
-pub use gpu_allocator::{AllocationError, AllocationSizes, Result};
+pub use gpu_allocator::{AllocationError, AllocationReport, AllocationSizes, Result};
 
 /// The kind that a number stands for: 0 free, 1 linear, 2 non-linear.
 pub fn kind(number: u64) -> AllocationType {
@@ -68,6 +68,14 @@ pub fn free(block: &mut dyn SubAllocator, id: u64) -> Result<()> {
 /// Gives the live chunk with this id another label.
 pub fn rename(block: &mut dyn SubAllocator, id: u64, label: u64) -> Result<()> {
     block.rename_allocation(NonZeroU64::new(id), &label.to_string())
+}
+
+/// What a block reports of each allocation, in the order that it is reported in: name, first byte, size.
+pub fn reported(block: &dyn SubAllocator) -> Vec<(String, u64, u64)> {
+    let entries = block.report_allocations().into_iter();
+    entries
+        .map(|entry| (entry.name, entry.offset, entry.size))
+        .collect()
 }
 
 /// The four words of block sizes, in the order in which they cross the boundary.

@@ -62,6 +62,11 @@ impl Tracked {
         self.block
     }
 
+    /// What the Rust reports: the name, the first byte and the size of each live chunk, in any order.
+    pub fn reported(&self) -> Vec<(String, u64, u64)> {
+        rust::reported(&self.block)
+    }
+
     /// What the block's table says.
     pub fn table(&self) -> Table {
         let chunks = self.block.chunks.values();

@@ -4,10 +4,13 @@ use std::collections::HashSet;
 use std::hint::black_box;
 use std::panic::catch_unwind;
 
-use lunkaseyo::{fmt_bytes, AllocationSizes, Block, Refusal};
+use lunkaseyo::{ffi, fmt_bytes, AllocationSizes, Block, DedicatedBlock, Refusal};
 use lunkaseyo_compare::boundary::MB;
 use lunkaseyo_compare::calls::{asked, Answer, Call};
-use lunkaseyo_compare::rust::{self, FreeListAllocator, Request, SubAllocator};
+use lunkaseyo_compare::dedicated::calls as dedicated;
+use lunkaseyo_compare::rust::{
+    self, AllocationError, DedicatedBlockAllocator, FreeListAllocator, Request, SubAllocator,
+};
 
 fn number<T>(answer: Result<T, Refusal>) -> Option<u64> {
     answer.err().map(Refusal::number)
@@ -66,6 +69,7 @@ fn a_total_that_the_chunks_do_not_bear_out() {
     theirs.allocated = 5;
     assert_eq!(theirs.allocated(), 5);
     assert!(!theirs.is_empty());
+    assert!(theirs.report_allocations().is_empty());
 
     let mut words = [0; Block::words(1)];
     Block::new(&mut words, 16).expect("16 bytes are a block");
@@ -73,6 +77,7 @@ fn a_total_that_the_chunks_do_not_bear_out() {
     let ours = Block::over(&mut words);
     assert_eq!(number(ours.allocated()), Some(2));
     assert_eq!(number(ours.is_empty()), Some(2));
+    assert_eq!(number(ours.leaks()), Some(2));
 }
 
 /// A linear byte, anywhere.
@@ -208,4 +213,90 @@ fn equal_chunks() {
         assert_eq!((ours.number, ours.offset, ours.id), (0, 0, 2));
     }
     assert_eq!(handed_out_first, HashSet::from([0, 2]));
+}
+
+#[test]
+fn the_order_of_a_report() {
+    let mut reported_first = HashSet::new();
+    for _ in 0..64 {
+        let (theirs, mut words) = placed_and_freed(2, &[2, 1], &[]);
+        reported_first.insert(theirs.report_allocations()[0].offset);
+
+        let ours = Block::over(&mut words);
+        let leaks = ours.leaks().expect("the table is sound");
+        assert!(leaks.map(|leak| leak.first_byte).eq([0, 1]));
+    }
+    assert_eq!(reported_first, HashSet::from([0, 1]));
+}
+
+#[test]
+fn dedicated_blocks_of_no_bytes() {
+    let nothing = Request { size: 0, ..A_BYTE };
+    let mut theirs = DedicatedBlockAllocator::new(0);
+    for _ in 0..2 {
+        let placed = rust::allocate(&mut theirs, nothing);
+        assert_eq!(placed.expect("it is empty when occupied"), (0, 1));
+    }
+
+    let mut record = [7; 3];
+    assert_eq!(ffi::dedicated_new(&mut record, 0), 13);
+    assert_eq!(record, [7; 3]);
+}
+
+/// Fails unless a dedicated block of 1 byte refuses the request with this number, and changes no word.
+fn assert_dedicated_refuses(record: ffi::Record, request: Request, number: u64) {
+    let mut words = record;
+    let answer = dedicated::asked(&mut words, dedicated::Call::Allocate(request));
+    assert_eq!(answer, dedicated::Answer::plain(number));
+    assert_eq!(words, record);
+}
+
+#[test]
+fn a_size_of_0_in_a_dedicated_block() {
+    let nothing = Request { size: 0, ..A_BYTE };
+    let mut theirs = DedicatedBlockAllocator::new(1);
+    let answer = rust::allocate(&mut theirs, nothing);
+    assert!(matches!(answer, Err(AllocationError::Internal(_))));
+    rust::allocate(&mut theirs, A_BYTE).expect("it is empty");
+    let answer = rust::allocate(&mut theirs, nothing);
+    assert!(matches!(answer, Err(AllocationError::OutOfMemory)));
+
+    assert_dedicated_refuses([1, 0, 0], nothing, 3);
+    assert_dedicated_refuses([1, 1, 0], nothing, 3);
+}
+
+#[test]
+fn requests_that_a_dedicated_block_does_not_look_at() {
+    let aligned = |alignment| Request {
+        alignment,
+        ..A_BYTE
+    };
+    let paged = |granularity| Request {
+        granularity,
+        ..A_BYTE
+    };
+    for (request, number) in [
+        (aligned(0), 4),
+        (aligned(3), 4),
+        (paged(0), 5),
+        (paged(3), 5),
+        (Request { kind: 0, ..A_BYTE }, 6),
+    ] {
+        let placed = rust::allocate(&mut DedicatedBlockAllocator::new(1), request);
+        assert_eq!(placed.expect("only the size counts"), (0, 1));
+
+        assert_dedicated_refuses([1, 0, 0], request, number);
+    }
+}
+
+#[test]
+fn a_dedicated_block_that_is_allocated_in_part() {
+    let mut theirs = DedicatedBlockAllocator::new(2);
+    theirs.allocated = 1;
+    assert_eq!(theirs.allocated(), 1);
+    assert_eq!(rust::reported(&theirs)[0].2, 2);
+
+    let ours = DedicatedBlock::from_words([2, 1, 0]);
+    assert_eq!(number(ours.allocated()), Some(2));
+    assert_eq!(number(ours.report_allocations()), Some(2));
 }

@@ -11,20 +11,23 @@ use std::sync::Arc;
 use lunkaseyo::ffi;
 use lunkaseyo_compare::calls::{expected, Answer, Call};
 use lunkaseyo_compare::generator::shuffle_slots;
+use lunkaseyo_compare::leaks;
 use lunkaseyo_compare::random::Random;
-use lunkaseyo_compare::rust::{self, FreeListAllocator, Request, SubAllocator};
+use lunkaseyo_compare::rust::{self, AllocationReport, FreeListAllocator, Request, SubAllocator};
 use lunkaseyo_compare::table::Table;
 use lunkaseyo_compare::tracked::{Placed, Tracked};
 
 /// A call that is counted, by its name. It gives how often it was made.
 type Counted = (&'static str, fn(&Table) -> usize);
 
-const CALLS: [Counted; 5] = [
+const CALLS: [Counted; 7] = [
     ("check", check),
     ("allocate", allocate),
     ("crate-allocate", crate_allocate),
     ("free", free),
     ("crate-free", crate_free),
+    ("walk", walk),
+    ("crate-walk", crate_walk),
 ];
 
 /// How many requests are made on each table.
@@ -47,7 +50,8 @@ fn main() {
     let table = tables().into_iter().find(|(named, _)| named == name);
     let (_, table) = table.expect("counted alone names the tables");
     let call = CALLS.into_iter().find(|(named, _)| named == call);
-    let (_, make) = call.expect("check, allocate, crate-allocate, free or crate-free");
+    let names = CALLS.map(|(name, _)| name).join(", ");
+    let (_, make) = call.unwrap_or_else(|| panic!("the calls are {names}"));
     println!("{}", make(&table));
 }
 
@@ -74,6 +78,11 @@ fn measured_free(words: &mut [u64], id: u64) -> u64 {
 }
 
 #[inline(never)]
+fn measured_step(words: &[u64], place: &mut u64, leak: &mut ffi::Leak) -> u64 {
+    ffi::leaks_step(words, place, leak)
+}
+
+#[inline(never)]
 fn measured_crate_allocate(
     block: &mut FreeListAllocator,
     request: Request,
@@ -93,6 +102,11 @@ fn measured_crate_allocate(
 #[inline(never)]
 fn measured_crate_free(block: &mut FreeListAllocator, id: Option<NonZeroU64>) -> rust::Result<()> {
     block.free(id)
+}
+
+#[inline(never)]
+fn measured_crate_report(block: &FreeListAllocator) -> Vec<AllocationReport> {
+    block.report_allocations()
 }
 
 // ---- the same with what goes before and after
@@ -153,6 +167,26 @@ fn crate_free(table: &Table) -> usize {
         freed.expect("the id is live");
     };
     live_ids(table).map(give_back).count()
+}
+
+/// A whole walk: each live chunk, and the end.
+fn walk(table: &Table) -> usize {
+    let words = table.words();
+    let (mut place, mut leak) = (0, ffi::Leak::default());
+    for chunk in table.chunks.iter().filter(|chunk| !chunk.is_free()) {
+        let number = measured_step(&words, &mut place, &mut leak);
+        assert_eq!((number, leak), (0, leaks::leak(chunk)));
+    }
+    let number = measured_step(&words, &mut place, &mut leak);
+    assert_eq!((number, leak), (0, leaks::NOTHING));
+    1
+}
+
+/// The crate's report of the same chunks, for which it copies each name.
+fn crate_walk(table: &Table) -> usize {
+    let report = measured_crate_report(&Tracked::of(table).into_block());
+    assert_eq!(report.len(), live_ids(table).count());
+    1
 }
 
 // ---- requests and tables
