@@ -38,10 +38,11 @@ fn request_fault(block: DedicatedBlock, request: Request) -> u64
     if fault != 0 {
         return fault;
     }
+    let size = request.size;
     if block.allocated != 0 {
         return 11;
     }
-    if request.size != block.size {
+    if size != block.size {
         return 12;
     }
     0

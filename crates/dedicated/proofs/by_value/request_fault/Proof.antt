@@ -27,11 +27,11 @@ returns-3 c = rw (passed (c .before .before .before .before .before .is-sound .e
 
 returns-4 : tie.Need-returns-4
 unfolding requestFault
-returns-4 c = rw (passed (c .before .before .before .before .before .before .before .before .is-sound .ensures) (c .before .before .before .before .before .before .before .if1 .left), eq-eqb _ _ (sym (c .before .before .before .before .before .before .fault .ensures) ∙ c .before .before .before .before .before .if2 .left), eq-eqb _ _ (c .before .before .before .if3 .left), ne-eqb _ _ (c .if4 .taken))
+returns-4 c = rw (passed (c .before .before .before .before .before .before .before .is-sound .ensures) (c .before .before .before .before .before .before .if1 .left), eq-eqb _ _ (sym (c .before .before .before .before .before .fault .ensures) ∙ c .before .before .before .before .if2 .left), eq-eqb _ _ (c .before .before .if3 .left), ne-eqb _ _ (c .if4 .taken))
 
 returns-5 : tie.Need-returns-5
 unfolding requestFault
-returns-5 c = rw (passed (c .before .before .before .before .before .before .before .before .is-sound .ensures) (c .before .before .before .before .before .before .before .if1 .left), eq-eqb _ _ (sym (c .before .before .before .before .before .before .fault .ensures) ∙ c .before .before .before .before .before .if2 .left), eq-eqb _ _ (c .before .before .before .if3 .left), eq-eqb _ _ (c .if4 .left))
+returns-5 c = rw (passed (c .before .before .before .before .before .before .before .is-sound .ensures) (c .before .before .before .before .before .before .if1 .left), eq-eqb _ _ (sym (c .before .before .before .before .before .fault .ensures) ∙ c .before .before .before .before .if2 .left), eq-eqb _ _ (c .before .before .if3 .left), eq-eqb _ _ (c .if4 .left))
 
 pub request-fault-spec : {M : Type 1} → statement M
 request-fault-spec = tie.close (tie.spec is-sound-requires returns fault-requires returns-2 returns-3 returns-4 returns-5)
