@@ -11,7 +11,7 @@ use Rattle.model.specs.Block.{Spot, first, liveSize}
 use Rattle.model.specs.GivingBack.{grown, relabel}
 use Rattle.model.specs.Totals.{free-size, live-size}
 use Rattle.table.specs.Layout.{Slot, allocatedWord, sizeAt, at}
-use Rattle.table.specs.Stores.{OnlySlot, nothing, stored, row-head-set}
+use Rattle.stores.specs.Stores.{OnlySlot, nothing, stored, row-head-set}
 use Rattle.words.specs.Words.{slotOf, rowOf, encode, blockOf}
 use Rattle.words.specs.Spots.{InSlot, in-table, in-row, in-words}
 use Rattle.chunks.specs.Premises.{FreeIn, LiveIn}

@@ -6,8 +6,8 @@ use mathlib.Core.Logic.{_≢_}
 use mathlib.Core.Path.{_≡_, sym, ap, _∙_}
 use lib.ListN.{getD, set}
 use Rattle.model.specs.Block.{Chunk}
-use Rattle.table.specs.Layout.{slotCount, Slot, sizeAt, nextAt, at, row, emptyRow, setRow}
-use Rattle.table.specs.Stores.{OnlySlot, nothing, stored, row-written}
+use Rattle.table.specs.Layout.{slotCount, Slot, sizeAt, nextAt, at, row, emptyRow}
+use Rattle.stores.specs.Stores.{setRow, OnlySlot, nothing, stored, row-written}
 use Rattle.words.specs.Words.{encode, blockOf}
 use Rattle.words.specs.Spots.{in-table}
 use Rattle.chunks.specs.JoinedWords.{JoinedRows, taken-slot, after-within, after-other, after-kept, join-written}

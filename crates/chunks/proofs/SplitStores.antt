@@ -8,8 +8,8 @@ use mathlib.Core.Path.{_≡_, sym, ap, _∙_}
 use lib.ListN.{length, getD, set, length-set}
 use lib.Seq.{getD-set-same, getD-set-other}
 use Rattle.model.specs.Block.{Spot}
-use Rattle.table.specs.Layout.{slotCount, Slot, allocatedWord, nextId, sizeAt, firstByteAt, previousAt, row, setRow}
-use Rattle.table.specs.Stores.{OnlySlot, nothing, stored, row-head-set, row-written}
+use Rattle.table.specs.Layout.{slotCount, Slot, allocatedWord, nextId, sizeAt, firstByteAt, previousAt, row}
+use Rattle.stores.specs.Stores.{setRow, OnlySlot, nothing, stored, row-head-set, row-written}
 use Rattle.words.specs.Words.{encode, blockOf}
 use Rattle.words.specs.Spots.{in-table}
 use Rattle.chunks.specs.Premises.{FreeIn, NoneIn}

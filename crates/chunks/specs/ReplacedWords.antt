@@ -13,7 +13,7 @@ use Rattle.model.specs.Effects.{replaced}
 use Rattle.model.specs.Placing.{withChunks}
 use Rattle.model.specs.Sums.{allocated-cut}
 use Rattle.table.specs.Layout.{Slot, allocatedWord, row}
-use Rattle.table.specs.Stores.{OnlySlot, row-head-set}
+use Rattle.stores.specs.Stores.{OnlySlot, row-head-set}
 use Rattle.words.specs.Words.{slotOf, rowOf, rowAt, encode, blockOf}
 use Rattle.words.specs.Rows.{written}
 use Rattle.words.specs.Spots.{slot-unused, InSlot, in-table}

@@ -1,5 +1,6 @@
 // Two free neighbours become one.
 use crate::links;
+use stores;
 use table::layout;
 ghost use mathlib.Core.List.{List};
 ghost use mathlib.Core.Path.{_≡_};
@@ -18,8 +19,8 @@ pub fn join(w: &mut [u64], k: u64)
     let n = layout::next(w, k);
     let after = layout::next(w, n);
     let size = layout::size(w, k) + layout::size(w, n);
-    layout::set_slot(w, n, 0, 0, 0, 0, 0, 0, 0);
-    layout::set_size(w, k, size);
-    layout::set_next(w, k, after);
+    stores::set_slot(w, n, 0, 0, 0, 0, 0, 0, 0);
+    stores::set_size(w, k, size);
+    stores::set_next(w, k, after);
     links::set_previous_of(w, after, k);
 }

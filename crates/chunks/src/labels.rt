@@ -1,5 +1,5 @@
 // The label of a chunk.
-use table::layout;
+use stores;
 ghost use mathlib.Core.Path.{_≡_};
 ghost use Rattle.model.specs.Block.{Spot};
 ghost use Rattle.table.specs.Layout.{Slot};
@@ -11,5 +11,5 @@ pub fn relabel(w: &mut [u64], k: u64, label: u64)
     requires { ⌜ Slot (now w) k ⌝ }
     ensures { λ _. ⌜ ((z : Spot) → InSlot (now (w .entry)) k z → now (w .exit) ≡ encode (relabelled label z (blockOf (now (w .entry))))) ⌝ }
 {
-    layout::set_label(w, k, label);
+    stores::set_label(w, k, label);
 }

@@ -1,5 +1,5 @@
 // The links of a slot's neighbours: 0 is none, and before the first chunk stands the head.
-use table::layout;
+use stores;
 ghost use mathlib.Core.Path.{_≡_};
 ghost use Prim.Native.Nat.{_≤_};
 ghost use lib.ListN.{length};
@@ -12,10 +12,10 @@ pub fn set_next_of(w: &mut [u64], p: u64, k: u64)
     ensures { λ _. ⌜ now (w .exit) ≡ nextOfSet (now (w .entry)) p k ⌝ }
 {
     if p == 0 {
-        layout::set_first_slot(w, k);
+        stores::set_first_slot(w, k);
         return;
     }
-    layout::set_next(w, p, k);
+    stores::set_next(w, p, k);
 }
 
 // Slot k comes before slot n.
@@ -26,5 +26,5 @@ pub fn set_previous_of(w: &mut [u64], n: u64, k: u64)
     if n == 0 {
         return;
     }
-    layout::set_previous(w, n, k);
+    stores::set_previous(w, n, k);
 }

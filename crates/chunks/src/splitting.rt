@@ -1,5 +1,6 @@
 // A free chunk in two: a new live piece on the left, the remainder on the right.
 use crate::links;
+use stores;
 use table::layout;
 ghost use mathlib.Core.Logic.{_≢_};
 ghost use mathlib.Core.Path.{_≡_};
@@ -16,9 +17,9 @@ fn shorten(w: &mut [u64], k: u64, first: u64, size: u64, new: u64)
     requires { ⌜ Slot (now w) k ⌝ }
     ensures { λ _. ⌜ now (w .exit) ≡ shortened (now (w .entry)) k first size new ⌝ }
 {
-    layout::set_size(w, k, size);
-    layout::set_first_byte(w, k, first);
-    layout::set_previous(w, k, new);
+    stores::set_size(w, k, size);
+    stores::set_first_byte(w, k, first);
+    stores::set_previous(w, k, new);
 }
 
 // The first n bytes of the free chunk in slot k become a live chunk in slot new, under the next id.
@@ -29,9 +30,9 @@ pub fn split_off(w: &mut [u64], k: u64, new: u64, n: u64, kind: u64, label: u64)
     let first = layout::first_byte(w, k);
     let size = layout::size(w, k) - n;
     let previous = layout::previous(w, k);
-    let id = layout::spend_id(w);
-    layout::raise_allocated(w, n);
-    layout::set_slot(w, new, id, n, first, kind, label, k, previous);
+    let id = stores::spend_id(w);
+    stores::raise_allocated(w, n);
+    stores::set_slot(w, new, id, n, first, kind, label, k, previous);
     links::set_next_of(w, previous, new);
     shorten(w, k, first + n, size, new);
 }

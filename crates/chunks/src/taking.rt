@@ -1,4 +1,5 @@
 // A chunk as a whole: a free one becomes live, a live one free.
+use stores;
 use table::layout;
 ghost use mathlib.Core.Logic.{_≢_};
 ghost use mathlib.Core.Path.{_≡_};
@@ -14,9 +15,9 @@ pub fn take_whole(w: &mut [u64], k: u64, kind: u64, label: u64)
     ensures { λ _. ⌜ ((z : Spot) → FreeIn (now (w .entry)) k z → kind ≢ 0 → now (w .exit) ≡ encode (takenWhole kind label z (blockOf (now (w .entry))))) ⌝ }
 {
     let size = layout::size(w, k);
-    layout::raise_allocated(w, size);
-    layout::set_kind(w, k, kind);
-    layout::set_label(w, k, label);
+    stores::raise_allocated(w, size);
+    stores::set_kind(w, k, kind);
+    stores::set_label(w, k, label);
 }
 
 pub fn set_free(w: &mut [u64], k: u64)
@@ -24,7 +25,7 @@ pub fn set_free(w: &mut [u64], k: u64)
     ensures { λ _. ⌜ ((z : Spot) → LiveIn (now (w .entry)) k z → now (w .exit) ≡ encode (setFree z (blockOf (now (w .entry))))) ⌝ }
 {
     let size = layout::size(w, k);
-    layout::lower_allocated(w, size);
-    layout::set_kind(w, k, 0);
-    layout::set_label(w, k, 0);
+    stores::lower_allocated(w, size);
+    stores::set_kind(w, k, 0);
+    stores::set_label(w, k, 0);
 }

@@ -5,10 +5,10 @@ use block::giving_back;
 use block::placing;
 use opening::creation;
 use opening::questions;
+use stores;
 use sub_allocator::answers::Placement;
 use sub_allocator::answers::Total;
 use sub_allocator::request::Request;
-use table::layout;
 
 // What a line came to, and how many words of the store the next one finds a block on: 0 where there is none.
 pub struct Outcome {
@@ -109,7 +109,7 @@ fn next_id_agrees(words: &mut [u64], next: u64, check: u64) -> bool {
     if words.len() < 4 {
         return false;
     }
-    layout::set_next_id(words, next);
+    stores::set_next_id(words, next);
     checksum(words) == check
 }
 

@@ -1,11 +1,12 @@
 -- Where the words of a table stand: a head of four words, then seven for each slot. Assumes nothing.
-use Prim.Native.Nat.{ℕ, _+_, _-_, _*_, _/_, _≤_}
+use Prim.Native.Nat.{ℕ, zero, suc, _+_, _-_, _*_, _/_, _≤_, _<_}
+use native.Mathlib.Omega.{arith}
 use mathlib.Core.Bool.{Bool, true}
 use mathlib.Core.List.{List, [], _∷_}
-use mathlib.Core.Path.{_≡_}
+use mathlib.Core.Path.{_≡_, refl}
 use borrow.Author.Tests.{leb-true, eqb-true}
 use lib.Dec.{eqb, leb}
-use lib.ListN.{length, getD, set}
+use lib.ListN.{length, getD}
 use Rattle.laws.specs.Every.{every, pass}
 
 -- the words of a table of so many slots, and the slots of so many words
@@ -79,13 +80,13 @@ row ws k = idAt ws k ∷ sizeAt ws k ∷ firstByteAt ws k ∷ kindAt ws k ∷ la
 abbrev pub emptyRow : List ℕ
 emptyRow = 0 ∷ 0 ∷ 0 ∷ 0 ∷ 0 ∷ 0 ∷ 0 ∷ []
 
--- ---- the words of slot k written over, its front first
-
-unfoldable pub setFront : List ℕ → ℕ → ℕ → ℕ → ℕ → ℕ → List ℕ
-setFront ws k id size first kind = set (set (set (set ws (at k 0) id) (at k 1) size) (at k 2) first) (at k 3) kind
-
-unfoldable pub setBack : List ℕ → ℕ → ℕ → ℕ → ℕ → List ℕ
-setBack ws k label next previous = set (set (set ws (at k 4) label) (at k 5) next) (at k 6) previous
-
-unfoldable pub setRow : List ℕ → ℕ → ℕ → ℕ → ℕ → ℕ → ℕ → ℕ → ℕ → List ℕ
-setRow ws k id size first kind label next previous = setBack (setFront ws k id size first kind) k label next previous
+-- Word f of a row is word f of the slot.
+pub row-word : (ws : List ℕ) (k f : ℕ) → f < 7 → getD (row ws k) f 0 ≡ word ws k f
+row-word ws k zero l = refl
+row-word ws k (suc zero) l = refl
+row-word ws k (suc (suc zero)) l = refl
+row-word ws k (suc (suc (suc zero))) l = refl
+row-word ws k (suc (suc (suc (suc zero)))) l = refl
+row-word ws k (suc (suc (suc (suc (suc zero))))) l = refl
+row-word ws k (suc (suc (suc (suc (suc (suc zero)))))) l = refl
+row-word ws k (suc (suc (suc (suc (suc (suc (suc f))))))) l = absurd (omega arith)

@@ -1,3 +1,2 @@
--- The chunk table as words: where they stand, and what a store changes.
+-- The chunk table as words: where they stand.
 pub mod Layout
-pub mod Stores

@@ -8,8 +8,7 @@ use lib.Dec.{eqb}
 use lib.ListN.{length, getD, length-append, List·getD-append}
 use lib.Seq.{ext-getD, getD-append-add}
 use Rattle.model.specs.Block.{Chunk, Block, allocated}
-use Rattle.table.specs.Layout.{wordCount, slotCount, blockSize, allocatedWord, nextId, firstSlot, at, word, row}
-use Rattle.table.specs.Stores.{row-word}
+use Rattle.table.specs.Layout.{wordCount, slotCount, blockSize, allocatedWord, nextId, firstSlot, at, word, row, row-word}
 use Rattle.words.specs.Words.{slotOf, rowOf, rowAt, rows, encode}
 
 -- ---- the words of a written block

@@ -1,5 +1,5 @@
 // A fresh table: next id 2 and one free chunk, id 1, in slot 1; every other slot is empty.
-use table::layout;
+use stores;
 ghost use mathlib.Core.Bool.{true};
 ghost use mathlib.Core.Path.{_≡_};
 ghost use lib.ListN.{length, replicate};
@@ -23,9 +23,9 @@ pub fn write_fresh(w: &mut [u64], size: u64)
     ensures { λ _. ⌜ now (w .exit) ≡ encode (fresh size (slotCount (now (w .entry)))) ⌝ }
 {
     clear(w);
-    layout::set_block_size(w, size);
-    layout::set_next_id(w, 2);
-    layout::set_first_slot(w, 1);
-    layout::set_id(w, 1, 1);
-    layout::set_size(w, 1, size);
+    stores::set_block_size(w, size);
+    stores::set_next_id(w, 2);
+    stores::set_first_slot(w, 1);
+    stores::set_id(w, 1, 1);
+    stores::set_size(w, 1, size);
 }

@@ -1,8 +1,8 @@
--- `table::layout::set_front` meets its contract. Assumes nothing.
+-- `stores::set_front` meets its contract. Assumes nothing.
 use borrow.Author.Needs.{needs}
-use Rattle.table.specs.Layout.{setFront}
-use Rattle.table.proofs.layout.set_front.Statement.{statement}
-use Rattle.table.proofs.layout.set_front.Tie as tie
+use Rattle.stores.specs.Stores.{setFront}
+use Rattle.stores.proofs.set_front.Statement.{statement}
+use Rattle.stores.proofs.set_front.Tie as tie
 
 set-id-requires : tie.Need-set-id-requires
 set-id-requires c κs = search needs

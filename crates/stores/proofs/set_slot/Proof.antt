@@ -1,8 +1,8 @@
--- `table::layout::set_slot` meets its contract. Assumes nothing.
+-- `stores::set_slot` meets its contract. Assumes nothing.
 use borrow.Author.Needs.{needs}
-use Rattle.table.specs.Layout.{setRow}
-use Rattle.table.proofs.layout.set_slot.Statement.{statement}
-use Rattle.table.proofs.layout.set_slot.Tie as tie
+use Rattle.stores.specs.Stores.{setRow}
+use Rattle.stores.proofs.set_slot.Statement.{statement}
+use Rattle.stores.proofs.set_slot.Tie as tie
 
 set-front-requires : tie.Need-set-front-requires
 set-front-requires c κs = search needs

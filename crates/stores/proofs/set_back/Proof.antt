@@ -1,8 +1,8 @@
--- `table::layout::set_back` meets its contract. Assumes nothing.
+-- `stores::set_back` meets its contract. Assumes nothing.
 use borrow.Author.Needs.{needs}
-use Rattle.table.specs.Layout.{setBack}
-use Rattle.table.proofs.layout.set_back.Statement.{statement}
-use Rattle.table.proofs.layout.set_back.Tie as tie
+use Rattle.stores.specs.Stores.{setBack}
+use Rattle.stores.proofs.set_back.Statement.{statement}
+use Rattle.stores.proofs.set_back.Tie as tie
 
 set-label-requires : tie.Need-set-label-requires
 set-label-requires c κs = search needs

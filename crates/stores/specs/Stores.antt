@@ -1,5 +1,5 @@
--- What a store into a table changes: of the head one word, or of one slot one word. Assumes nothing.
-use Prim.Native.Nat.{ℕ, zero, suc, _≤_, _<_}
+-- What a store into a table writes and what it changes: of the head one word, or of one slot. Assumes nothing.
+use Prim.Native.Nat.{ℕ, _≤_, _<_}
 use native.Mathlib.Omega.{arith}
 use mathlib.Core.List.{List, [], _∷_}
 use mathlib.Core.Logic.{_≢_, ⊎-elim}
@@ -7,18 +7,18 @@ use mathlib.Core.Path.{_≡_, refl, sym, ap, _∙_}
 use lib.ListN.{length, getD, set, length-set}
 use lib.Seq.{ext-getD, getD-set-same, getD-set-other}
 use Rattle.laws.specs.Members.{eq-or-not}
-use Rattle.table.specs.Layout.{Slot, at, word, row, setFront, setBack, setRow}
+use Rattle.table.specs.Layout.{Slot, at, word, row, row-word}
 
--- Word f of a row is word f of the slot.
-pub row-word : (ws : List ℕ) (k f : ℕ) → f < 7 → getD (row ws k) f 0 ≡ word ws k f
-row-word ws k zero l = refl
-row-word ws k (suc zero) l = refl
-row-word ws k (suc (suc zero)) l = refl
-row-word ws k (suc (suc (suc zero))) l = refl
-row-word ws k (suc (suc (suc (suc zero)))) l = refl
-row-word ws k (suc (suc (suc (suc (suc zero))))) l = refl
-row-word ws k (suc (suc (suc (suc (suc (suc zero)))))) l = refl
-row-word ws k (suc (suc (suc (suc (suc (suc (suc f))))))) l = absurd (omega arith)
+-- ---- the words of slot k written over, its front first
+
+unfoldable pub setFront : List ℕ → ℕ → ℕ → ℕ → ℕ → ℕ → List ℕ
+setFront ws k id size first kind = set (set (set (set ws (at k 0) id) (at k 1) size) (at k 2) first) (at k 3) kind
+
+unfoldable pub setBack : List ℕ → ℕ → ℕ → ℕ → ℕ → List ℕ
+setBack ws k label next previous = set (set (set ws (at k 4) label) (at k 5) next) (at k 6) previous
+
+unfoldable pub setRow : List ℕ → ℕ → ℕ → ℕ → ℕ → ℕ → ℕ → ℕ → ℕ → List ℕ
+setRow ws k id size first kind label next previous = setBack (setFront ws k id size first kind) k label next previous
 
 -- a store at a place that is not of slot k leaves the slot's words
 row-kept : (ws : List ℕ) (n v k : ℕ) → ((f : ℕ) → f < 7 → at k f ≢ n) → row (set ws n v) k ≡ row ws k

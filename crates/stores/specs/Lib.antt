@@ -1,0 +1,2 @@
+-- Stores into the words of a table.
+pub mod Stores
