@@ -2,7 +2,7 @@
 use sub_allocator::answers::Created;
 use table::layout;
 use words::fresh;
-use words::soundness;
+use words::ranges;
 ghost use mathlib.Core.Path.{_≡_};
 ghost use Rattle.opening.specs.Creation.{newOn};
 ghost use Rattle.sub_allocator.specs.Answers.{replyCreated};
@@ -13,7 +13,7 @@ pub fn new(words: &mut [u64], size: u64) -> Created
     if !layout::is_table(words) {
         return Created::Refused(1);
     }
-    if !soundness::is_up_to(1099511627776, size) {
+    if !ranges::is_up_to(1099511627776, size) {
         return Created::Refused(13);
     }
     fresh::write_fresh(words, size);

@@ -1,6 +1,6 @@
 // What every call but creation looks at first.
+use soundness;
 use table::layout;
-use words::soundness;
 ghost use mathlib.Core.Path.{_≡_};
 ghost use Rattle.opening.specs.Look.{tableFault};
 

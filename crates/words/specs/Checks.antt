@@ -96,3 +96,7 @@ checked ws =
     ∷ walked ws
     ∷ emptyBelow ws (slotCount ws) (slotCount ws - length (chunksOf ws))
     ∷ [])
+
+-- block size 1 to 2^40, next id at least 2
+unfoldable pub headOk : List ℕ → Bool
+headOk ws = every (leb 1 (blockSize ws) ∷ leb (blockSize ws) (2 ^ 40) ∷ leb 2 (nextId ws) ∷ [])

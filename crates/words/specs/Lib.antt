@@ -10,7 +10,6 @@ pub mod Checked
 -- what the functions of the check answer
 pub mod Checks
 pub mod Ids
-pub mod Answers
 -- on the way to these
 pub mod Rows
 pub mod Laid

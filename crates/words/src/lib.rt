@@ -1,4 +1,3 @@
-// The chunk table as lent words: how a fresh one is written, and whether they are sound.
+// The chunk table as lent words: how a fresh one is written. What they mean is in specs/.
 pub mod fresh;
-mod ids;
-pub mod soundness;
+pub mod ranges;

@@ -1,0 +1,4 @@
+-- The laws that the proofs of `walking` share. Assumes nothing.
+pub mod Ways
+pub mod Chains
+pub mod Turns

@@ -1,0 +1,2 @@
+-- What the parts of the walk answer.
+pub mod Answers

@@ -1,0 +1,13 @@
+// Ranges of numbers from 1.
+ghost use mathlib.Core.Path.{_≡_};
+ghost use Rattle.words.specs.Checks.{upTo};
+
+// Whether x is from 1 to top: k where it is a slot's number, an id where it was handed out, a block's size.
+pub fn is_up_to(top: u64, x: u64) -> bool
+    ensures { λ r. ⌜ r ≡ upTo top x ⌝ }
+{
+    if x < 1 {
+        return false;
+    }
+    x <= top
+}
