@@ -20,10 +20,11 @@ use Rattle.table.specs.Layout.{Slot, slotCount, allocatedWord, sizeAt, kindAt, 
 use Rattle.words.specs.Laid.{Laid, block-back}
 use Rattle.words.specs.Spots.{InSlot, in-table, in-words, before-in, after-in, written-spot}
 use Rattle.words.specs.Words.{encode, blockOf}
-use Rattle.chunks.specs.JoinedWords.{taken-place, free-laid, joined-laid}
+use Rattle.pieces.specs.JoinedWords.{taken-place, free-laid, joined-laid}
 use Rattle.chunks.specs.Premises.{FreeIn, LiveIn, TwoFree}
 use Rattle.chunks.specs.Sides.{next-within, allocated-of-table}
-use Rattle.chunks.specs.Steps.{setFree, joined}
+use Rattle.chunks.specs.Steps.{setFree}
+use Rattle.pieces.specs.Steps.{joined}
 use Rattle.block.specs.GivingBack.{nextTaken, joinNext, joinPrevious, Bounded}
 
 -- a free chunk is labelled 0

@@ -21,7 +21,8 @@ use Rattle.words.specs.Words.{encode, blockOf, sound}
 use Rattle.words.specs.Written.{known}
 use Rattle.chunks.specs.Premises.{NoneIn}
 use Rattle.chunks.specs.Sides.{previous-within}
-use Rattle.chunks.specs.Steps.{takenWhole, splitInTwo}
+use Rattle.chunks.specs.Steps.{takenWhole}
+use Rattle.pieces.specs.Steps.{splitInTwo}
 use Rattle.search.specs.Best.{bestSlot, best-none, best-some}
 use Rattle.search.specs.Empty.{new-slot-empty}
 use Rattle.search.specs.Fit.{beforeAt, offset-chunk}

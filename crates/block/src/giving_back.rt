@@ -1,8 +1,8 @@
 // Giving back a live chunk by its id, and renaming it.
-use chunks::joining;
 use chunks::labels;
 use chunks::taking;
 use opening::look;
+use pieces::joining;
 use search::live;
 use sub_allocator::answers::Changed;
 use table::layout;

@@ -1,7 +1,7 @@
 // Placing: the offset and the id that a request is given, and the table after it.
-use chunks::splitting;
 use chunks::taking;
 use opening::look;
+use pieces::splitting;
 use search::best;
 use search::empty;
 use search::fit;

@@ -1,8 +1,5 @@
--- What a call does to a table, a step at a time.
+-- What a call does to one chunk of a table.
 pub mod Steps
 pub mod Premises
-pub mod Stores
 pub mod Sides
 pub mod ReplacedWords
-pub mod SplitWords
-pub mod JoinedWords

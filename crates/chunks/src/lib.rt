@@ -1,6 +1,3 @@
-// What a call does to a table, a step at a time: each writes only the words that change.
-pub mod joining;
+// What a call does to one chunk of a table: each step writes only the words that change.
 pub mod labels;
-mod links;
-pub mod splitting;
 pub mod taking;

@@ -10,12 +10,12 @@ use Rattle.table.specs.Layout.{slotCount, Slot, sizeAt, nextAt, at, row, emptyR
 use Rattle.stores.specs.Stores.{setRow, OnlySlot, nothing, stored, row-written}
 use Rattle.words.specs.Words.{encode, blockOf}
 use Rattle.words.specs.Spots.{in-table}
-use Rattle.chunks.specs.JoinedWords.{JoinedRows, taken-slot, after-within, after-other, after-kept, join-written}
+use Rattle.pieces.specs.JoinedWords.{JoinedRows, taken-slot, after-within, after-other, after-kept, join-written}
 use Rattle.chunks.specs.Premises.{TwoFree}
 use Rattle.chunks.specs.Sides.{next-other}
-use Rattle.chunks.specs.Steps.{joined}
-use Rattle.chunks.specs.Stores.{previousOfSet}
-use Rattle.chunks.proofs.LinkStores.{PreviousTold, previous-told}
+use Rattle.pieces.specs.Steps.{joined}
+use Rattle.pieces.specs.Stores.{previousOfSet}
+use Rattle.pieces.proofs.LinkStores.{PreviousTold, previous-told}
 
 -- the slot after slot k is emptied
 abbrev emptied : List ℕ → ℕ → List ℕ

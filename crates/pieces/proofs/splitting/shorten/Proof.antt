@@ -1,8 +1,8 @@
--- `chunks::splitting::shorten` meets its contract. Assumes nothing.
-use Rattle.chunks.specs.Stores.{shortened}
+-- `pieces::splitting::shorten` meets its contract. Assumes nothing.
+use Rattle.pieces.specs.Stores.{shortened}
 use borrow.Author.Needs.{needs}
-use Rattle.chunks.proofs.splitting.shorten.Statement.{statement}
-use Rattle.chunks.proofs.splitting.shorten.Tie as tie
+use Rattle.pieces.proofs.splitting.shorten.Statement.{statement}
+use Rattle.pieces.proofs.splitting.shorten.Tie as tie
 
 set-size-requires : tie.Need-set-size-requires
 set-size-requires c κs = search needs

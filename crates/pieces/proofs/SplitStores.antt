@@ -12,12 +12,12 @@ use Rattle.table.specs.Layout.{slotCount, Slot, allocatedWord, nextId, sizeAt, 
 use Rattle.stores.specs.Stores.{setRow, OnlySlot, nothing, stored, row-head-set, row-written}
 use Rattle.words.specs.Words.{encode, blockOf}
 use Rattle.words.specs.Spots.{in-table}
 use Rattle.chunks.specs.Premises.{FreeIn, NoneIn}
 use Rattle.chunks.specs.Sides.{previous-within, previous-other}
-use Rattle.chunks.specs.SplitWords.{SplitRows, new-other, new-not-before, split-written}
-use Rattle.chunks.specs.Steps.{splitInTwo}
-use Rattle.chunks.specs.Stores.{nextOfSet, shortened}
-use Rattle.chunks.proofs.LinkStores.{NextTold, next-told}
+use Rattle.pieces.specs.SplitWords.{SplitRows, new-other, new-not-before, split-written}
+use Rattle.pieces.specs.Steps.{splitInTwo}
+use Rattle.pieces.specs.Stores.{nextOfSet, shortened}
+use Rattle.pieces.proofs.LinkStores.{NextTold, next-told}
 
 -- the head: the next id is spent, then allocated rises
 abbrev counted : List ℕ → ℕ → List ℕ

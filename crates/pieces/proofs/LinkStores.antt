@@ -9,7 +9,7 @@ use lib.Seq.{getD-set-same, getD-set-other}
 use Rattle.laws.specs.Members.{eq-or-not}
 use Rattle.table.specs.Layout.{slotCount, firstSlot, row}
 use Rattle.stores.specs.Stores.{nothing, stored, row-head-set}
-use Rattle.chunks.specs.Stores.{nextOfSet, previousOfSet, next-of-none, next-of-slot, previous-of-none, previous-of-slot}
+use Rattle.pieces.specs.Stores.{nextOfSet, previousOfSet, next-of-none, next-of-slot, previous-of-none, previous-of-slot}
 
 -- slot k comes after slot p: that slot is told, or the head where p is 0
 pub record NextTold (ws ws′ : List ℕ) (p k : ℕ) : Type 0 where

@@ -1,9 +1,9 @@
--- `chunks::links::set_next_of` meets its contract. Assumes nothing.
+-- `pieces::links::set_next_of` meets its contract. Assumes nothing.
 use mathlib.Core.Path.{sym, _∙_}
-use Rattle.chunks.specs.Stores.{next-of-none, next-of-slot}
+use Rattle.pieces.specs.Stores.{next-of-none, next-of-slot}
 use borrow.Author.Needs.{needs}
-use Rattle.chunks.proofs.links.set_next_of.Statement.{statement}
-use Rattle.chunks.proofs.links.set_next_of.Tie as tie
+use Rattle.pieces.proofs.links.set_next_of.Statement.{statement}
+use Rattle.pieces.proofs.links.set_next_of.Tie as tie
 
 set-first-slot-requires : tie.Need-set-first-slot-requires
 set-first-slot-requires c κs = search needs

@@ -8,9 +8,9 @@ ghost use Prim.Native.Nat.{_+_, _≤_, _<_, _^_};
 ghost use Rattle.model.specs.Block.{Spot};
 ghost use Rattle.table.specs.Layout.{Slot, slotCount, allocatedWord, nextId, sizeAt, firstByteAt, previousAt};
 ghost use Rattle.words.specs.Words.{encode, blockOf};
 ghost use Rattle.chunks.specs.Premises.{FreeIn, NoneIn};
-ghost use Rattle.chunks.specs.Steps.{splitInTwo};
-ghost use Rattle.chunks.specs.Stores.{shortened};
+ghost use Rattle.pieces.specs.Steps.{splitInTwo};
+ghost use Rattle.pieces.specs.Stores.{shortened};
 
 // The chunk in slot k begins at first, after slot new, and has so many bytes.
 fn shorten(w: &mut [u64], k: u64, first: u64, size: u64, new: u64)

@@ -4,7 +4,7 @@ ghost use mathlib.Core.Path.{_≡_};
 ghost use Prim.Native.Nat.{_≤_};
 ghost use lib.ListN.{length};
 ghost use Rattle.table.specs.Layout.{slotCount};
-ghost use Rattle.chunks.specs.Stores.{nextOfSet, previousOfSet};
+ghost use Rattle.pieces.specs.Stores.{nextOfSet, previousOfSet};
 
 // Slot k comes after slot p.
 pub fn set_next_of(w: &mut [u64], p: u64, k: u64)

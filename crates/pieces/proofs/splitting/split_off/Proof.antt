@@ -1,9 +1,9 @@
--- `chunks::splitting::split_off` meets its contract. Assumes nothing.
+-- `pieces::splitting::split_off` meets its contract. Assumes nothing.
 use native.Mathlib.Omega.{arith}
-use Rattle.chunks.proofs.SplitStores.{allocated-kept, split-words}
+use Rattle.pieces.proofs.SplitStores.{allocated-kept, split-words}
 use borrow.Author.Needs.{needs}
-use Rattle.chunks.proofs.splitting.split_off.Statement.{statement}
-use Rattle.chunks.proofs.splitting.split_off.Tie as tie
+use Rattle.pieces.proofs.splitting.split_off.Statement.{statement}
+use Rattle.pieces.proofs.splitting.split_off.Tie as tie
 
 first-byte-requires : tie.Need-first-byte-requires
 first-byte-requires c κs = search needs

@@ -21,9 +21,10 @@ use Rattle.words.specs.Linked.{rowAt-there, rowAt-none}
 use Rattle.words.specs.Laid.{Laid}
 use Rattle.words.specs.Rows.{written}
 use Rattle.words.specs.Spots.{rowAt-right, slot-unused, InSlot, in-table, in-row, in-words, after-in}
 use Rattle.chunks.specs.Premises.{TwoFree}
 use Rattle.chunks.specs.Sides.{row-at-cut, row-on-left, row-far-right, first-kept, first-other, left-apart, right-apart, next-within, next-other, row-of-table, allocated-of-table, first-of-table, length-of-table}
-use Rattle.chunks.specs.Steps.{setFree, joined}
+use Rattle.chunks.specs.Steps.{setFree}
+use Rattle.pieces.specs.Steps.{joined}
 
 -- ---- the two chunks in the table
 

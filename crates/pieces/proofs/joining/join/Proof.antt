@@ -1,9 +1,9 @@
--- `chunks::joining::join` meets its contract. Assumes nothing.
+-- `pieces::joining::join` meets its contract. Assumes nothing.
 use native.Mathlib.Omega.{arith}
-use Rattle.chunks.proofs.JoinStores.{join-words}
+use Rattle.pieces.proofs.JoinStores.{join-words}
 use borrow.Author.Needs.{needs}
-use Rattle.chunks.proofs.joining.join.Statement.{statement}
-use Rattle.chunks.proofs.joining.join.Tie as tie
+use Rattle.pieces.proofs.joining.join.Statement.{statement}
+use Rattle.pieces.proofs.joining.join.Tie as tie
 
 next-requires : tie.Need-next-requires
 next-requires c κs = search needs

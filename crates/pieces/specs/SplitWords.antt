@@ -20,9 +20,9 @@ use Rattle.words.specs.Words.{slotOf, rowAt, encode, blockOf, slotsOf}
 use Rattle.words.specs.Linked.{rowAt-there}
 use Rattle.words.specs.Rows.{written}
 use Rattle.words.specs.Spots.{rowAt-right, slot-unused, InSlot, in-row, in-words, before-in}
 use Rattle.chunks.specs.Premises.{FreeIn, NoneIn}
 use Rattle.chunks.specs.Sides.{row-at-cut, row-far-left, first-kept, first-other, left-apart, sides-within, row-of-table, allocated-of-table, first-of-table, length-of-table}
-use Rattle.chunks.specs.Steps.{splitInTwo}
+use Rattle.pieces.specs.Steps.{splitInTwo}
 
 -- ---- the slot of the new chunk
 

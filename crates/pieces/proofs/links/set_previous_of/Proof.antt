@@ -1,9 +1,9 @@
--- `chunks::links::set_previous_of` meets its contract. Assumes nothing.
+-- `pieces::links::set_previous_of` meets its contract. Assumes nothing.
 use mathlib.Core.Path.{sym, _∙_}
-use Rattle.chunks.specs.Stores.{previous-of-none, previous-of-slot}
+use Rattle.pieces.specs.Stores.{previous-of-none, previous-of-slot}
 use borrow.Author.Needs.{needs}
-use Rattle.chunks.proofs.links.set_previous_of.Statement.{statement}
-use Rattle.chunks.proofs.links.set_previous_of.Tie as tie
+use Rattle.pieces.proofs.links.set_previous_of.Statement.{statement}
+use Rattle.pieces.proofs.links.set_previous_of.Tie as tie
 
 returns : tie.Need-returns
 returns c = sym (previous-of-none _ _ _ (c .if1 .taken))

@@ -8,8 +8,8 @@ ghost use Prim.Native.Nat.{_+_, _≤_, _<_, _^_};
 ghost use Rattle.model.specs.Block.{Chunk};
 ghost use Rattle.table.specs.Layout.{Slot, slotCount, sizeAt, nextAt};
 ghost use Rattle.words.specs.Words.{encode, blockOf};
 ghost use Rattle.chunks.specs.Premises.{TwoFree};
-ghost use Rattle.chunks.specs.Steps.{joined};
+ghost use Rattle.pieces.specs.Steps.{joined};
 
 // The free chunk in slot k takes in the chunk after it, whose slot is empty then.
 pub fn join(w: &mut [u64], k: u64)

@@ -1,0 +1,4 @@
+-- The laws that the proofs of `pieces` share. Assumes nothing.
+pub mod LinkStores
+pub mod SplitStores
+pub mod JoinStores
