@@ -22,7 +22,7 @@ use Rattle.words.specs.Checked.{sound-exactly}
 use Rattle.opening.specs.Looked.{TableWords, table-exactly, looked, sound-answered}
 use Rattle.search.specs.Held.{held-kind, in-bytes}
 use Rattle.leaks.specs.Leaks.{Live, liveOf, handedOut, isFrom, liveFrom, leakOn}
-use Rattle.leaks.specs.Lives.{livesOf, lives, from, liveAt, LiveSlot, Before, lives-slots, slots-lives, lives-rise, lives-sizes}
+use Rattle.leaks.specs.Lives.{livesOf, lives, from, liveAt, LiveSlot, Before, lives-slots, slots-lives, lives-rise, lives-sizes, lives-ids}
 
 -- the first of the chunks, if there is one
 abbrev pub firstOf : List Live → Option Live
@@ -176,6 +176,15 @@ pub leak-live : (ws : List ℕ) (address : ℕ) (l : Live)
     → leakOn ws address ≡ accepted (some l)
     ↔ (TableWords ws × Sound ws × ((k : ℕ) × LowestFrom ws address k × (l ≡ liveAt ws k)))
 leak-live ws address l = leak-told ws address (some l)
+
+-- What is handed out has an id of at least 1.
+pub leak-id : (ws : List ℕ) (address : ℕ) (l : Live) → leakOn ws address ≡ accepted (some l) → 1 ≤ l .id
+leak-id ws address l e =
+    let h = leak-live ws address l .0 e in
+    let k = h .2 .0 in
+    let m = slots-lives ws (h .0) (h .1) k (h .2 .1 .0 .0) in
+    subst (λ (x : Live). 1 ≤ x .id) (sym (h .2 .2))
+    (all-at (λ x. 1 ≤ x .id) (lives ws) (lives-ids ws (h .0) (h .1)) (liveAt ws k) m)
 
 -- What is handed out ends within 2^40 bytes.
 pub leak-within : (ws : List ℕ) (address : ℕ) (l : Live) → leakOn ws address ≡ accepted (some l)

@@ -1,5 +1,5 @@
 -- The live chunks of the block that words hold, by rising address, and where they stand in the words. Assumes nothing.
-use Prim.Native.Nat.{ℕ, _+_, _≤_}
+use Prim.Native.Nat.{ℕ, _+_, _≤_, _<_}
 use native.Mathlib.Omega.{arith}
 use mathlib.Core.Bool.{true, cond}
 use mathlib.Core.List.{List, [], _∷_, List·Memᴰ, List·Memᴰ·not-nil}
@@ -145,6 +145,15 @@ module _ (ws : List ℕ) (t : TableWords ws) (s : Sound ws) where
       (λ z m n.
       let h = sound-spot ws is-sound z (cut-of-spot (blockOf ws .chunks) z m) in
       in-all h (λ c. 1 ≤ c .size) (known ws is-sound .block .sizes))
+
+  -- Each has an id of at least 1.
+  pub lives-ids : All (λ l. 1 ≤ l .id) (lives ws)
+  unfolding lives
+  lives-ids =
+      of-lives (λ l. 1 ≤ l .id) (spots [] (blockOf ws .chunks))
+      (λ z m n.
+      let h = sound-spot ws is-sound z (cut-of-spot (blockOf ws .chunks) z m) in
+      in-all h (λ c. (1 ≤ c .id) × (c .id < blockOf ws .next)) (known ws is-sound .block .ids) .0)
 
   -- Their sizes sum to the bytes allocated.
   pub lives-sum : bytes (lives ws) ≡ allocatedWord ws
