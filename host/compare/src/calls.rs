@@ -63,14 +63,7 @@ pub fn asked(words: &mut [u64], call: Call) -> Answer {
     match call {
         Call::Allocate(request) => {
             let (mut offset, mut id) = (SPOILT, SPOILT);
-            let request = [
-                request.size,
-                request.alignment,
-                request.kind,
-                request.granularity,
-                request.label,
-            ];
-            let number = ffi::block_allocate(words, request, &mut offset, &mut id);
+            let number = ffi::block_allocate(words, request.words(), &mut offset, &mut id);
             Answer { number, offset, id }
         }
         Call::Free(id) => Answer::plain(ffi::block_free(words, id)),

@@ -209,3 +209,21 @@ fn distinct(count: usize, mut next: impl FnMut() -> u64) -> Vec<u64> {
     }
     numbers
 }
+
+/// Hands on sound tables of three kinds in turn: those that runs of calls lead to, the same in other slots, and any.
+pub fn each_table(
+    random: &mut Random,
+    [runs, tables_of_a_run]: [usize; 2],
+    mut compare: impl FnMut(&Table, &mut Random),
+) {
+    for _ in 0..runs {
+        let mut run = Run::start(random);
+        for _ in 0..tables_of_a_run {
+            let called = run.next_table(random);
+            let other = rearranged(called.clone(), random);
+            for table in [called, other, any_table(random)] {
+                compare(&table, random);
+            }
+        }
+    }
+}

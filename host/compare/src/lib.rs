@@ -20,6 +20,7 @@ pub mod random;
 pub mod reading;
 pub mod runs;
 pub mod rust;
+pub mod sort;
 pub mod sorts;
 pub mod table;
 pub mod tally;

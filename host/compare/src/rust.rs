@@ -47,6 +47,19 @@ pub struct Request {
     pub label: u64,
 }
 
+impl Request {
+    /// Its numbers, in the order in which they cross the boundary.
+    pub fn words(self) -> [u64; 5] {
+        [
+            self.size,
+            self.alignment,
+            self.kind,
+            self.granularity,
+            self.label,
+        ]
+    }
+}
+
 /// The offset and the id that a block gives to a request.
 pub fn allocate(block: &mut dyn SubAllocator, request: Request) -> Result<(u64, u64)> {
     let placed = block.allocate(

@@ -3,19 +3,11 @@
 
 use crate::calls::{fault, Call, Step, NO_ID};
 use crate::rust::{self, Request};
+use crate::sort::sort;
 use crate::table::{Chunk, Table};
 
-/// A sort of steps. A step may be of several.
-pub struct Sort {
-    /// What is special about them.
-    pub name: &'static str,
-    /// Whether a step is one of them.
-    pub has: fn(&Step) -> bool,
-}
-
-const fn sort(name: &'static str, has: fn(&Step) -> bool) -> Sort {
-    Sort { name, has }
-}
+/// A sort of these steps.
+pub type Sort = crate::sort::Sort<fn(&Step) -> bool>;
 
 impl Sort {
     /// Requests that are accepted.

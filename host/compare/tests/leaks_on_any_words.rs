@@ -3,7 +3,7 @@
 
 use lunkaseyo_compare::counts::Counts;
 use lunkaseyo_compare::damage::{Damage, Turns};
-use lunkaseyo_compare::generator::{any_table, rearranged, Run};
+use lunkaseyo_compare::generator::each_table;
 use lunkaseyo_compare::leaks::{asked, expected, places, start_expected, started};
 use lunkaseyo_compare::parts::in_parts;
 use lunkaseyo_compare::random::Random;
@@ -71,18 +71,15 @@ fn compare_part(part: u64) -> Compared {
     let mut random = Random::seeded(part);
     let lists = [Damage::ONE_WORD, Damage::SEVERAL_WORDS, Damage::WORD_COUNT];
     let mut damages = lists.map(Turns::of);
-    for _ in 0..RUNS_OF_A_PART {
-        let mut run = Run::start(&mut random);
-        for _ in 0..TABLES_OF_A_RUN {
-            let called = run.next_table(&mut random);
-            let other = rearranged(called.clone(), &mut random);
-            for table in [called, other, any_table(&mut random)] {
-                for damages in &mut damages {
-                    compared.compare_spoilt(&table, damages, &mut random);
-                }
+    each_table(
+        &mut random,
+        [RUNS_OF_A_PART, TABLES_OF_A_RUN],
+        |table, random| {
+            for damages in &mut damages {
+                compared.compare_spoilt(table, damages, random);
             }
-        }
-    }
+        },
+    );
     compared
 }
 

@@ -107,15 +107,8 @@ pub fn asked(record: &mut Record, call: Call) -> Answer {
 }
 
 fn asked_for(record: &mut Record, request: Request) -> Answer {
-    let request = [
-        request.size,
-        request.alignment,
-        request.kind,
-        request.granularity,
-        request.label,
-    ];
     told(record, |record, [offset, id]| {
-        ffi::dedicated_allocate(record, request, offset, id)
+        ffi::dedicated_allocate(record, request.words(), offset, id)
     })
 }
 

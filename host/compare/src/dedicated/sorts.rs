@@ -3,18 +3,10 @@
 
 use super::calls::{word, Call, Step};
 use crate::rust::Request;
+use crate::sort::sort;
 
-/// A sort of steps. A step may be of several.
-pub struct Sort {
-    /// What is special about them.
-    pub name: &'static str,
-    /// Whether a step is one of them.
-    pub has: fn(&Step) -> bool,
-}
-
-const fn sort(name: &'static str, has: fn(&Step) -> bool) -> Sort {
-    Sort { name, has }
-}
+/// A sort of these steps.
+pub type Sort = crate::sort::Sort<fn(&Step) -> bool>;
 
 impl Sort {
     /// New blocks.

@@ -2,6 +2,7 @@
 //! them, so that none passes by leaving a sort out.
 
 use super::{live, Stepped};
+use crate::sort::sort;
 use crate::table::{Chunk, Table, MOST_SLOTS};
 
 /// A step from a place on a sound table.
@@ -14,17 +15,8 @@ pub struct Step<'a> {
     pub stepped: Stepped,
 }
 
-/// A sort of steps. A step may be of several.
-pub struct Sort {
-    /// What is special about them.
-    pub name: &'static str,
-    /// Whether a step is one of them.
-    pub has: fn(&Step) -> bool,
-}
-
-const fn sort(name: &'static str, has: fn(&Step) -> bool) -> Sort {
-    Sort { name, has }
-}
+/// A sort of these steps.
+pub type Sort = crate::sort::Sort<fn(&Step) -> bool>;
 
 /// A number that does not fit in half a word.
 const LARGE: u64 = 1 << 32;
