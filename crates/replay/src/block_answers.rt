@@ -63,7 +63,7 @@ fn left_agrees(words: &[u64], allocated: u64, check: u64) -> bool {
 }
 
 // A refusal has no offset and no id: both are 0.
-fn placement_agrees(answer: Placement, number: u64, offset: u64, id: u64) -> bool {
+pub fn placement_agrees(answer: Placement, number: u64, offset: u64, id: u64) -> bool {
     match answer {
         Placement::Placed {
             offset: first,

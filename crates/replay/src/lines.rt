@@ -1,6 +1,8 @@
 // Reads the recorded lines, a byte at a time, and counts how each comes out.
+use crate::block_answers;
 use crate::block_answers::Outcome;
-use crate::block_answers::replayed;
+use crate::dedicated_answers;
+use crate::leak_answers;
 use crate::pages_answers::agrees;
 
 pub struct Lines {
@@ -100,7 +102,19 @@ impl Lines {
             let agrees = agrees(fields, at + 1);
             return Outcome { agrees, lent };
         }
-        replayed(store, fields, at + 1, lent)
+        if fields[0] < 10 {
+            return block_answers::replayed(store, fields, at + 1, lent);
+        }
+        if fields[0] < 15 {
+            return dedicated_answers::replayed(store, fields, at + 1, lent);
+        }
+        if fields[0] == 15 {
+            return leak_answers::replayed(store, fields, at + 1, lent);
+        }
+        Outcome {
+            agrees: false,
+            lent,
+        }
     }
 
     // The state after a line: counted, unless it is a comment.

@@ -8,6 +8,7 @@ use std::iter;
 use crate::caller::Caller;
 use crate::calls::{answered, Answer, Call, Step, NO_ID};
 use crate::generator::{any_size, any_slots};
+use crate::leaks::{self, Stepped};
 use crate::random::Random;
 use crate::rust::Request;
 use crate::table::{Table, LARGEST_BLOCK, MOST_SLOTS};
@@ -16,11 +17,16 @@ use crate::tracked::Tracked;
 /// How many calls are recorded.
 const CALLS: usize = 5_000;
 
+/// How many chunks of a block are walked along at the most.
+const WALKED: usize = 40;
+
 const COMMENT: &str = "\
 # Answers of gpu-allocator 0.28.0 with docs/oracle.patch, as host/compare's record_calls writes them: 5 a new block, \
-6 allocate, 7 free, 8 rename, 9 the next id set by hand
+6 allocate, 7 free, 8 rename, 9 the next id set by hand, 15 what is live from a place on
 # Arguments, number, for 6 offset and id, for 6 to 8 the bytes allocated, for 6 to 9 a checksum of the words after it; \
 the Rust has no slots, and the paper gives 3 to 6, 9, 10 and 13
+# For 15 the place, id, first byte, size, kind and label of the first live chunk of the Rust's that begins there or later, \
+zeros where there is none, and the place after it
 ";
 
 /// One line of the sample.
@@ -36,6 +42,8 @@ pub enum Line {
     Call(Step),
     /// The next id is set by hand, and this is the table then.
     NextId(Table),
+    /// A step of the leak walk from this place.
+    Leak(u64, Stepped),
 }
 
 /// The sample: comments, then a line for each call.
@@ -165,6 +173,7 @@ fn any_run(slots: usize, calls: usize, random: &mut Random) -> Vec<Line> {
         };
         block.call(call);
     }
+    block.walk();
     block.lines
 }
 
@@ -185,6 +194,25 @@ impl Recorded {
     fn set_next_id(&mut self, next_id: u64) {
         self.block.skip_ids(next_id - self.block.table().next_id);
         self.lines.push(Line::NextId(self.block.table()));
+    }
+
+    /// A walk from the start, then one that begins past it: to the end and once more, or some way.
+    fn walk(&mut self) {
+        let table = self.block.table();
+        let middle = table.chunks[table.chunks.len() / 2].first;
+        for start in [0, middle, middle + 1] {
+            let mut place = start;
+            for _ in 0..WALKED {
+                let stepped = leaks::step(&table, place);
+                self.lines.push(Line::Leak(place, stepped));
+                if stepped.is_end() {
+                    break;
+                }
+                place = stepped.place;
+            }
+            self.lines
+                .push(Line::Leak(place, leaks::step(&table, place)));
+        }
     }
 
     fn call(&mut self, call: Call) {
@@ -208,6 +236,14 @@ impl fmt::Display for Line {
                 write!(f, "5 {size} {slots} {}", if is_block { 0 } else { 13 })
             }
             Line::NextId(table) => write!(f, "9 {} {}", table.next_id, checksum(table)),
+            Line::Leak(place, stepped) => {
+                let [id, first, size, kind, label] = stepped.leak;
+                write!(
+                    f,
+                    "15 {place} {id} {first} {size} {kind} {label} {}",
+                    stepped.place
+                )
+            }
             Line::Call(step) => {
                 let Answer { number, offset, id } = step.answer;
                 match step.call {

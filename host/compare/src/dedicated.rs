@@ -4,5 +4,6 @@
 pub mod both;
 pub mod caller;
 pub mod calls;
+pub mod recorded;
 pub mod sorts;
 pub mod tally;

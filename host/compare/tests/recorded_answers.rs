@@ -2,13 +2,14 @@
 
 use lunkaseyo_compare::blocks::{self, Line};
 use lunkaseyo_compare::call_tally::CallTally;
+use lunkaseyo_compare::dedicated;
 use lunkaseyo_compare::kept::assert_kept;
 use lunkaseyo_compare::pages;
 use lunkaseyo_compare::sorts::Sort;
 
 #[test]
 fn the_sample_is_what_the_rust_answers() {
-    let recorded = pages::recorded() + &blocks::recorded();
+    let recorded = pages::recorded() + &blocks::recorded() + &dedicated::recorded::recorded();
     assert_kept("crates/replay/stdin", &recorded);
     assert!(recorded.len() < 1_500_000);
 }
@@ -33,4 +34,40 @@ fn the_sample_has_five_thousand_calls_of_every_sort() {
     tally
         .sorts
         .assert_each(Sort::all().map(|sort| sort.name), 3);
+}
+
+#[test]
+fn the_sample_has_walks_to_the_end_and_past_padding() {
+    let mut steps = 0;
+    let mut ends = 0;
+    for line in blocks::lines() {
+        if let Line::Leak(_, stepped) = line {
+            steps += 1;
+            ends += u64::from(stepped.is_end());
+        }
+    }
+    println!("{steps} steps, {ends} of them at an end");
+    assert!(steps > 1_000 && ends > 100 && steps > 2 * ends);
+}
+
+#[test]
+fn the_sample_has_two_thousand_calls_on_dedicated_blocks_of_every_sort() {
+    let mut tally = dedicated::tally::Tally::default();
+    let mut reports = 0;
+    for step in dedicated::recorded::steps() {
+        reports += u64::from(matches!(step.call, dedicated::calls::Call::Report));
+        tally.count(&step);
+    }
+    println!("{tally}");
+    assert_eq!(tally.calls - reports, dedicated::recorded::CALLS as u64);
+    let asked = [
+        "the total of an empty block",
+        "the total of an occupied block",
+        "empty",
+        "not empty",
+    ];
+    let sorts = dedicated::sorts::Sort::all().map(|sort| sort.name);
+    tally
+        .sorts
+        .assert_each(sorts.filter(|name| !asked.contains(name)), 1);
 }

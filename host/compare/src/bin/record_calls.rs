@@ -6,9 +6,10 @@ use std::fs::OpenOptions;
 use std::io::{self, Write};
 
 use lunkaseyo_compare::blocks;
+use lunkaseyo_compare::dedicated;
 
 fn main() -> io::Result<()> {
-    let sample = blocks::recorded();
+    let sample = blocks::recorded() + &dedicated::recorded::recorded();
     match env::args_os().nth(1) {
         Some(file) => OpenOptions::new()
             .append(true)
