@@ -1,10 +1,10 @@
 // Whether the calls of a dedicated block answer as a recorded line says. Its record is in the first three words of the store.
-use crate::block_answers::Outcome;
-use crate::block_answers::placement_agrees;
 use dedicated::by_value;
 use dedicated::record::DedicatedBlock;
 use dedicated::record::New;
 use dedicated::record::Report;
+use recorded_blocks::Outcome;
+use recorded_blocks::placement_agrees;
 use sub_allocator::answers::Total;
 use sub_allocator::request::Request;
 

@@ -1,7 +1,7 @@
 // Whether a step of the leak walk answers as a recorded line says, on the words of the table at hand.
-use crate::block_answers::Outcome;
 use leaks::leak::Leak;
 use leaks::walk;
+use recorded_blocks::Outcome;
 
 // At the end the five values are 0.
 fn leak_agrees(answer: Leak, fields: [u64; 11]) -> bool {

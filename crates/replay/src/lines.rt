@@ -1,9 +1,9 @@
 // Reads the recorded lines, a byte at a time, and counts how each comes out.
-use crate::block_answers;
-use crate::block_answers::Outcome;
 use crate::dedicated_answers;
 use crate::leak_answers;
-use crate::pages_answers::agrees;
+use recorded_blocks;
+use recorded_blocks::Outcome;
+use recorded_pages;
 
 pub struct Lines {
     // The numbers of the present line, and the place of the one that is being read.
@@ -99,11 +99,11 @@ impl Lines {
             };
         }
         if fields[0] < 5 {
-            let agrees = agrees(fields, at + 1);
+            let agrees = recorded_pages::agrees(fields, at + 1);
             return Outcome { agrees, lent };
         }
         if fields[0] < 10 {
-            return block_answers::replayed(store, fields, at + 1, lent);
+            return recorded_blocks::replayed(store, fields, at + 1, lent);
         }
         if fields[0] < 15 {
             return dedicated_answers::replayed(store, fields, at + 1, lent);

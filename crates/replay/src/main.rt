@@ -1,11 +1,8 @@
 // Replays answers that the Rust gave to the page functions, to the calls of blocks of both kinds and to reports of what is live:
 // standard input has a line for each, and the count of those that agree and of those that do not is written out.
-mod block_answers;
-mod checksum;
 mod dedicated_answers;
 mod leak_answers;
 mod lines;
-mod pages_answers;
 
 use crate::lines::Lines;
 use libc::STDIN_FILENO;

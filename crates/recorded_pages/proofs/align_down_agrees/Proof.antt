@@ -1,8 +1,8 @@
--- `replay::pages_answers::align_down_agrees` meets its contract. Assumes nothing.
+-- `recorded_pages::align_down_agrees` meets its contract. Assumes nothing.
 use borrow.Author.Needs.{needs}
 use Rattle.laws.specs.Tests.{passed}
-use Rattle.replay.proofs.pages_answers.align_down_agrees.Statement.{statement}
-use Rattle.replay.proofs.pages_answers.align_down_agrees.Tie as tie
+use Rattle.recorded_pages.proofs.align_down_agrees.Statement.{statement}
+use Rattle.recorded_pages.proofs.align_down_agrees.Tie as tie
 
 is-power-of-two-requires : tie.Need-is-power-of-two-requires
 is-power-of-two-requires c κs = search needs

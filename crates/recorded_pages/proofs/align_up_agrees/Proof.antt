@@ -1,10 +1,10 @@
--- `replay::pages_answers::align_up_agrees` meets its contract. Assumes nothing.
+-- `recorded_pages::align_up_agrees` meets its contract. Assumes nothing.
 use borrow.Author.Needs.{needs}
 use native.Mathlib.Omega.{arith}
 use Rattle.laws.specs.Tests.{passed}
 use Rattle.pages.specs.Pages.{power-pos}
-use Rattle.replay.proofs.pages_answers.align_up_agrees.Statement.{statement}
-use Rattle.replay.proofs.pages_answers.align_up_agrees.Tie as tie
+use Rattle.recorded_pages.proofs.align_up_agrees.Statement.{statement}
+use Rattle.recorded_pages.proofs.align_up_agrees.Tie as tie
 
 is-power-of-two-requires : tie.Need-is-power-of-two-requires
 is-power-of-two-requires c κs = search needs

@@ -1,9 +1,9 @@
--- `replay::block_answers::creation_replayed` meets its contract: what it lends of the store is there. Assumes nothing.
+-- `recorded_blocks::creation_replayed` meets its contract: what it lends of the store is there. Assumes nothing.
 use mathlib.Core.Path.{sym}
 use lib.Seq.{length-take-le}
 use borrow.Author.Needs.{needs}
-use Rattle.replay.proofs.block_answers.creation_replayed.Statement.{statement}
-use Rattle.replay.proofs.block_answers.creation_replayed.Tie as tie
+use Rattle.recorded_blocks.proofs.creation_replayed.Statement.{statement}
+use Rattle.recorded_blocks.proofs.creation_replayed.Tie as tie
 
 array-read-words-of : tie.Need-array-read-words-of
 array-read-words-of c = search needs

@@ -1,10 +1,10 @@
--- `replay::block_answers::clear` meets its contract: it writes no word past the last, and ends. Assumes nothing.
+-- `recorded_blocks::clear` meets its contract: it writes no word past the last, and ends. Assumes nothing.
 use Prim.Native.Nat.{_≤_, _-_}
 use mathlib.Core.Path.{_≡_}
 use lib.ListN.{length}
 use borrow.Author.Needs.{needs}
-use Rattle.replay.proofs.block_answers.clear.Statement.{statement}
-use Rattle.replay.proofs.block_answers.clear.Tie as tie
+use Rattle.recorded_blocks.proofs.clear.Statement.{statement}
+use Rattle.recorded_blocks.proofs.clear.Tie as tie
 
 abbrev Inv-loop : tie.InvT-loop
 Inv-loop words₀ i₀ i-end words i = (i ≤ i-end) × (length words ≡ i-end) × (length words ≡ length words₀)

@@ -1,9 +1,9 @@
--- `replay::block_answers::call_replayed` meets its contract: what it lends of the store is there. Assumes nothing.
+-- `recorded_blocks::call_replayed` meets its contract: what it lends of the store is there. Assumes nothing.
 use mathlib.Core.Path.{sym}
 use lib.Seq.{length-take-le}
 use borrow.Author.Needs.{needs}
-use Rattle.replay.proofs.block_answers.call_replayed.Statement.{statement}
-use Rattle.replay.proofs.block_answers.call_replayed.Tie as tie
+use Rattle.recorded_blocks.proofs.call_replayed.Statement.{statement}
+use Rattle.recorded_blocks.proofs.call_replayed.Tie as tie
 
 returns : tie.Need-returns
 returns c = search needs

@@ -1,8 +1,8 @@
--- `replay::checksum::checksum` meets its contract: it reads no word past the last, and ends. Assumes nothing.
+-- `recorded_blocks::checksum::checksum` meets its contract: it reads no word past the last, and ends. Assumes nothing.
 use Prim.Native.Nat.{_≤_, _-_}
 use borrow.Author.Needs.{needs}
-use Rattle.replay.proofs.checksum.checksum.Statement.{statement}
-use Rattle.replay.proofs.checksum.checksum.Tie as tie
+use Rattle.recorded_blocks.proofs.checksum.checksum.Statement.{statement}
+use Rattle.recorded_blocks.proofs.checksum.checksum.Tie as tie
 
 abbrev Inv-loop : tie.InvT-loop
 Inv-loop words sum₀ i₀ i-end sum i = i ≤ i-end
