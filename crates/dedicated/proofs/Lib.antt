@@ -1,3 +1,2 @@
--- The laws that the proofs of `dedicated` share.
+-- The laws that the proofs of `dedicated` share. Assumes nothing.
 pub mod Ways
-pub mod HandedOn

@@ -1,4 +1,3 @@
 // The dedicated block: one allocation that takes all of it, in a small record.
 pub mod by_value;
-pub mod lent;
 pub mod record;

@@ -1,4 +1,4 @@
--- `dedicated::lent::allocate` keeps its contract, over its MIR: the locals are made and freed here, the statements between are `HandedOn.antt`'s, and the exit is shown.
+-- `dedicated_lent::allocate` keeps its contract, over its MIR: the locals are made and freed here, the statements between are `HandedOn.antt`'s, and the exit is shown.
 -- Of `by_value::allocate` only the contract is used, whose equation is already the one wanted.
 -- Assumes nothing.
 use mathlib.Core.Path.{_≡_, refl}
@@ -35,19 +35,19 @@ use Rattle.sub_allocator.specs.Requests.{requestOf}
 use Rattle.sub_allocator.specs.declared.request.Request.{Request}
 use Rattle.sub_allocator.proofs.request.Request as Q
 use Rattle.sub_allocator.proofs.request.Request.Laws as Q′
 use Rattle.dedicated.specs.Dedicated.{placed, allocateIn}
 use Rattle.dedicated.specs.declared.record.DedicatedBlock.{DedicatedBlock}
 use Rattle.dedicated.specs.declared.record.Placing.{Placing}
-use Rattle.dedicated.proofs.HandedOn.{placing, machine, told, asks, Left, leaves, hands-on}
+use Rattle.dedicated_lent.proofs.HandedOn.{placing, machine, told, asks, Left, leaves, hands-on}
 use Rattle.dedicated.proofs.record.DedicatedBlock as T
 use Rattle.dedicated.proofs.by_value.allocate as by-value
 use Rattle.dedicated.proofs.by_value.allocate.Symbol as by-value-def
 use Rattle.dedicated.proofs.by_value.allocate.Symbol.{name as #by-value}
 use Rattle.dedicated.proofs.by_value.allocate.Met as by-value-thm
-use Rattle.dedicated.proofs.lent.allocate.Key.{name as #allocate}
-use Rattle.dedicated.proofs.lent.allocate as allocate
-use Rattle.dedicated.proofs.lent.allocate.Statement as stated
-use Rattle.dedicated.proofs.lent.allocate.Code as code
+use Rattle.dedicated_lent.proofs.allocate.Key.{name as #allocate}
+use Rattle.dedicated_lent.proofs.allocate as allocate
+use Rattle.dedicated_lent.proofs.allocate.Statement as stated
+use Rattle.dedicated_lent.proofs.allocate.Code as code
 
 -- the types of the parameters after the reference
 abbrev Ps : List RattleType

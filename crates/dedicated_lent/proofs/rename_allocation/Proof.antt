@@ -1,4 +1,4 @@
--- `dedicated::lent::rename_allocation` keeps its contract, over its MIR: the locals are made and freed here, the statements between are `HandedOn.antt`'s, and the exit is shown.
+-- `dedicated_lent::rename_allocation` keeps its contract, over its MIR: the locals are made and freed here, the statements between are `HandedOn.antt`'s, and the exit is shown.
 -- Of `by_value::rename_allocation` only the contract is used, whose equation is already the one wanted.
 -- Assumes nothing.
 use mathlib.Core.Path.{_≡_, refl}
@@ -32,19 +32,19 @@ use denote.Triple.Clauses.{ensured, lasts}
 use denote.Triple.Table.{entered, cited}
 use denote.Triple.Walked.{says, Stays, stay-ref, stay-none, walkOf, goes-none, goes-ref, ends-at, walked, walk-meets}
 use denote.Exit.{yes}
 use Rattle.dedicated.specs.Dedicated.{changed, renameIn}
 use Rattle.dedicated.specs.declared.record.DedicatedBlock.{DedicatedBlock}
 use Rattle.dedicated.specs.declared.record.Changing.{Changing}
-use Rattle.dedicated.proofs.HandedOn.{changing, machine, told, asks, Left, leaves, hands-on}
+use Rattle.dedicated_lent.proofs.HandedOn.{changing, machine, told, asks, Left, leaves, hands-on}
 use Rattle.dedicated.proofs.record.DedicatedBlock as T
 use Rattle.dedicated.proofs.by_value.rename_allocation as by-value
 use Rattle.dedicated.proofs.by_value.rename_allocation.Symbol as by-value-def
 use Rattle.dedicated.proofs.by_value.rename_allocation.Symbol.{name as #by-value}
 use Rattle.dedicated.proofs.by_value.rename_allocation.Met as by-value-thm
-use Rattle.dedicated.proofs.lent.rename_allocation.Key.{name as #rename}
-use Rattle.dedicated.proofs.lent.rename_allocation as rename
-use Rattle.dedicated.proofs.lent.rename_allocation.Statement as stated
-use Rattle.dedicated.proofs.lent.rename_allocation.Code as code
+use Rattle.dedicated_lent.proofs.rename_allocation.Key.{name as #rename}
+use Rattle.dedicated_lent.proofs.rename_allocation as rename
+use Rattle.dedicated_lent.proofs.rename_allocation.Statement as stated
+use Rattle.dedicated_lent.proofs.rename_allocation.Code as code
 
 -- the types of the parameters after the reference
 abbrev Ps : List RattleType

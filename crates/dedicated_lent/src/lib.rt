@@ -1,13 +1,13 @@
 // The calls that write a dedicated block's record, on one that the caller lends: thin, over those by value.
-use crate::by_value;
-use crate::record::DedicatedBlock;
+use dedicated::by_value;
+use dedicated::record::DedicatedBlock;
 use sub_allocator::answers::Changed;
 use sub_allocator::answers::Placement;
 use sub_allocator::request::Request;
 ghost use mathlib.Core.Path.{_≡_};
 ghost use Rattle.sub_allocator.specs.Answers.{replyPlacement, replyChanged};
 ghost use Rattle.sub_allocator.specs.Requests.{requestOf};
 ghost use Rattle.dedicated.specs.Dedicated.{allocateIn, freeIn, renameIn};
 
 pub fn allocate(block: &mut DedicatedBlock, request: Request) -> Placement
     ensures { λ r. ⌜ (replyPlacement r, now (block .exit)) ≡ allocateIn (now (block .entry)) (requestOf request) ⌝ }

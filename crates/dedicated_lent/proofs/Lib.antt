@@ -1,0 +1,2 @@
+-- The walk that the proofs of `dedicated_lent` share.
+pub mod HandedOn
