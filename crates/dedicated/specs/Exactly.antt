@@ -1,5 +1,5 @@
 -- When each call on a dedicated block is refused, and what it answers otherwise. Assumes nothing.
-use Prim.Native.Nat.{ℕ, _≤_}
+use Prim.Native.Nat.{ℕ, _≤_, _<_}
 use native.Mathlib.Omega.{arith}
 use mathlib.Core.Bool.{Bool, true, false, not, cond, _||_}
 use mathlib.Core.Logic.{_↔_, _≢_, _⊎_, inl, inr, ⊎-elim}
@@ -48,6 +48,11 @@ sound-exactly d = (
       both-pass (ap not z)
       (⊎-elim (λ q. rw (eq-eqb (d .allocated) 0 q)) (λ q. rw (eq-eqb (d .allocated) (d .size) q) (or-right (eqb (d .allocated) 0))) (s .allocated)),
 )
+
+-- a call that is refused is not accepted
+refusal : {A : Type 0} {told : A} {d after : DedicatedBlock} {n : ℕ}
+    → _≡_ {A = Reply A × DedicatedBlock} (refused n, d) (accepted told, after) → ⊥
+refusal {A} e = not-refused (sym (ap (λ (x : Reply A × DedicatedBlock). x .0) e))
 
 -- ---- new
 
@@ -113,17 +118,18 @@ module _ (d : DedicatedBlock) where
         Q : ℕ → Type 0
         Q n = P (writes n d told after)
 
+    -- the numbers of a request's faults are 3 to 6
+    outside : {n : ℕ} → (n < 3) ⊎ (6 < n) → fault r ≢ 0 → fault r ≡ n → ⊥
+    outside h f e = ⊎-elim f (λ q. ⊎-elim (λ l. omega arith) (λ l. omega arith) h) (fault-range r)
+
     -- 2 exactly when the record is not sound.
     pub allocate-refused-2 : allocateIn d r .0 ≡ refused 2 ↔ (Sound d → ⊥)
     allocate-refused-2 =
         allocate-cases (λ x. x .0 ≡ refused 2 ↔ (Sound d → ⊥)) (λ n. (λ e. n, λ m. refl))
-        (λ s f. (λ e. absurd (no-2 f (ap number e)), λ m. absurd (m s)))
+        (λ s f. (λ e. absurd (outside (inl (omega arith)) f (ap number e)), λ m. absurd (m s)))
         (λ s f a. (λ e. absurd (omega (arith, ap number e)), λ m. absurd (m s)))
         (λ s f a l. (λ e. absurd (omega (arith, ap number e)), λ m. absurd (m s)))
         (λ s f a l. (λ e. absurd (not-refused e), λ m. absurd (m s)))
-      where
-        no-2 : fault r ≢ 0 → fault r ≡ 2 → ⊥
-        no-2 f e = ⊎-elim f (λ q. omega arith) (fault-range r)
 
     -- 3 to 6 exactly when it is, and the request has the fault of that number.
     pub allocate-refused-fault : (n : ℕ) → 3 ≤ n → n ≤ 6 → allocateIn d r .0 ≡ refused n ↔ (Sound d × (fault r ≡ n))
@@ -140,13 +146,10 @@ module _ (d : DedicatedBlock) where
     allocate-refused-11 =
         allocate-cases (λ x. x .0 ≡ refused 11 ↔ (Sound d × (fault r ≡ 0) × (d .allocated ≢ 0)))
         (λ m. (λ e. absurd (omega (arith, ap number e)), λ h. absurd (m (h .0))))
-        (λ s f. (λ e. absurd (small f (ap number e)), λ h. absurd (f (h .1))))
+        (λ s f. (λ e. absurd (outside (inr (omega arith)) f (ap number e)), λ h. absurd (f (h .1))))
         (λ s f o. (λ e. (s, f, o), λ h. refl))
         (λ s f o l. (λ e. absurd (omega (arith, ap number e)), λ h. absurd (h .2 o)))
         (λ s f o l. (λ e. absurd (not-refused e), λ h. absurd (h .2 o)))
-      where
-        small : fault r ≢ 0 → fault r ≡ 11 → ⊥
-        small f e = ⊎-elim f (λ q. omega arith) (fault-range r)
 
     -- 12 exactly when these are in order, the block is empty, and the size differs from its own.
     pub allocate-refused-12 : allocateIn d r .0 ≡ refused 12
@@ -154,13 +157,10 @@ module _ (d : DedicatedBlock) where
     allocate-refused-12 =
         allocate-cases (λ x. x .0 ≡ refused 12 ↔ (Sound d × (fault r ≡ 0) × (d .allocated ≡ 0) × (r .size ≢ d .size)))
         (λ m. (λ e. absurd (omega (arith, ap number e)), λ h. absurd (m (h .0))))
-        (λ s f. (λ e. absurd (small f (ap number e)), λ h. absurd (f (h .1))))
+        (λ s f. (λ e. absurd (outside (inr (omega arith)) f (ap number e)), λ h. absurd (f (h .1))))
         (λ s f o. (λ e. absurd (omega (arith, ap number e)), λ h. absurd (o (h .2))))
         (λ s f o l. (λ e. (s, f, o, l), λ h. refl))
         (λ s f o l. (λ e. absurd (not-refused e), λ h. absurd (h .3 l)))
-      where
-        small : fault r ≢ 0 → fault r ≡ 12 → ⊥
-        small f e = ⊎-elim f (λ q. omega arith) (fault-range r)
 
     -- Accepted exactly otherwise: offset 0 and id 1, all of the block allocated, and the request's label.
     pub allocate-accepted : (Sound d × (fault r ≡ 0) × (d .allocated ≡ 0) × (r .size ≡ d .size))
@@ -172,9 +172,6 @@ module _ (d : DedicatedBlock) where
         (λ s f o. (λ h. absurd (o (h .2)), λ e. absurd (refusal e)))
         (λ s f o l. (λ h. absurd (l (h .3)), λ e. absurd (refusal e)))
         (λ s f o l. (λ h. refl, λ e. (s, f, o, l)))
-      where
-        refusal : {n : ℕ} → _≡_ {A = Reply Given × DedicatedBlock} (refused n, d) (accepted told, after) → ⊥
-        refusal e = not-refused (sym (ap (λ (x : Reply Given × DedicatedBlock). x .0) e))
 
     -- No other number is given, and every refusal keeps the record.
     pub allocate-refused : (n : ℕ) → allocateIn d r .0 ≡ refused n
@@ -257,9 +254,6 @@ module _ (d : DedicatedBlock) (id : ℕ) (after : DedicatedBlock) where
       id-cases (λ x. (Sound d × (id ≡ 1)) ↔ x ≡ (accepted tt, after))
       (λ n. (λ h. absurd (n (h .0)), λ e. absurd (refusal e))) (λ s i. (λ h. absurd (i (h .1)), λ e. absurd (refusal e)))
       (λ s i. (λ h. refl, λ e. (s, i)))
-    where
-      refusal : {n : ℕ} → _≡_ {A = Reply (Unit {0}) × DedicatedBlock} (refused n, d) (accepted tt, after) → ⊥
-      refusal e = not-refused (sym (ap (λ (x : Reply (Unit {0}) × DedicatedBlock). x .0) e))
 
   id-refused : (n : ℕ) → call .0 ≡ refused n → ((n ≡ 2) ⊎ (n ≡ 18)) × (call .1 ≡ d)
   id-refused n =
