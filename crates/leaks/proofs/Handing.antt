@@ -14,8 +14,8 @@ use Rattle.opening.specs.Look.{tableFault}
 use Rattle.opening.specs.Fault.{unfit, on-block}
 use Rattle.search.specs.Held.{HeldIn}
 use Rattle.leaks.specs.Leaks.{Live, replyLeak, handedOut, liveFrom, leakOn, placeAfter, stepOn}
-use Rattle.leaks.specs.LiveSlots.{slotFrom, leakAt, from-none, from-some}
-use Rattle.leaks.specs.Lives.{spot-words}
+use Rattle.leaks.specs.LiveSlots.{slotFrom, from-none, from-some}
+use Rattle.leaks.specs.Lives.{liveAt, spot-words}
 use Rattle.leaks.specs.declared.leak.Leak.{Leak}
 
 module _ (ws : List ℕ) (address : ℕ) where
@@ -44,8 +44,7 @@ module _ (ws : List ℕ) (address : ℕ) where
     held-from n = let f = found-at n in (f .0, f .2)
 
     -- which is handed out.
-    pub handed : k ≢ 0 → replyLeak (leakAt ws k) ≡ leakOn ws address
-    unfolding leakAt
+    pub handed : k ≢ 0 → accepted (some (liveAt ws k)) ≡ leakOn ws address
     handed n =
         let f = found-at n in
         ap (λ (l : Live). accepted (some l)) (spot-words ws k (f .0) (f .2)) ∙ answered (some (f .0)) (f .1)

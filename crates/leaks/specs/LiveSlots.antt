@@ -7,13 +7,11 @@ use mathlib.Core.Option.{none, some}
 use mathlib.Core.Path.{_≡_}
 use lib.Dec.{eqb, leb}
 use Rattle.model.specs.Block.{Spot}
-use Rattle.table.specs.Layout.{idAt, sizeAt, firstByteAt, kindAt, labelAt}
+use Rattle.table.specs.Layout.{firstByteAt, kindAt}
 use Rattle.words.specs.Words.{blockOf, sound}
 use Rattle.words.specs.Spots.{InSlot}
 use Rattle.search.specs.Found.{slotOfSpot, find-inside, found-none, found-some}
 use Rattle.leaks.specs.Leaks.{isFrom, liveFrom}
-use Rattle.leaks.specs.declared.leak.Leak.{Leak}
-use Rattle.leaks.specs.declared.leak.Leak.the-variants as leak
 
 -- its slot, 0 where there is none
 unfoldable pub slotFrom : List ℕ → ℕ → ℕ
@@ -22,10 +20,6 @@ slotFrom ws address = slotOfSpot (liveFrom address (blockOf ws))
 -- the chunk in slot k is live and begins at the address or later
 unfoldable pub isFromAt : List ℕ → ℕ → ℕ → Bool
 isFromAt ws k address = not (eqb (kindAt ws k) 0) && leb address (firstByteAt ws k)
-
--- what is handed out of the chunk in slot k
-unfoldable pub leakAt : List ℕ → ℕ → Leak
-leakAt ws k = leak.Live (idAt ws k) (firstByteAt ws k) (sizeAt ws k) (kindAt ws k) (labelAt ws k)
 
 module _ (ws : List ℕ) (s : sound ws ≡ true) (address : ℕ) where
   -- Slot 0: no live chunk begins at the address or later.

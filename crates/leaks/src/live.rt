@@ -3,12 +3,15 @@ use crate::leak::Leak;
 use opening::look;
 use table::layout;
 ghost use mathlib.Core.Bool.{true};
+ghost use mathlib.Core.Option.{some};
 ghost use mathlib.Core.Path.{_≡_};
+ghost use Rattle.laws.specs.Reply.{accepted};
 ghost use Rattle.table.specs.Layout.{isTable};
 ghost use Rattle.words.specs.Words.{sound};
 ghost use Rattle.search.specs.Held.{HeldIn};
 ghost use Rattle.leaks.specs.Leaks.{replyLeak, leakOn};
-ghost use Rattle.leaks.specs.LiveSlots.{slotFrom, isFromAt, leakAt};
+ghost use Rattle.leaks.specs.Lives.{liveAt};
+ghost use Rattle.leaks.specs.LiveSlots.{slotFrom, isFromAt};
 
 // Whether the chunk in slot k is live and begins at the address or later.
 fn is_from(w: &[u64], k: u64, address: u64) -> bool
@@ -39,7 +42,7 @@ fn slot_from(w: &[u64], address: u64) -> u64
 // What is handed out of the chunk in slot k.
 fn leak_at(w: &[u64], k: u64) -> Leak
     requires { ⌜ HeldIn (now w) k ⌝ }
-    ensures { λ r. ⌜ r ≡ leakAt (now (w .entry)) k ⌝ }
+    ensures { λ r. ⌜ replyLeak r ≡ accepted (some (liveAt (now (w .entry)) k)) ⌝ }
 {
     let id = layout::id(w, k);
     let first_byte = layout::first_byte(w, k);

@@ -1,6 +1,5 @@
 -- `leaks::live::leak_at` meets its contract. Assumes nothing.
 use Rattle.search.specs.Held.{held-slot}
-use Rattle.leaks.specs.LiveSlots.{leakAt}
 use Rattle.leaks.proofs.live.leak_at.Statement.{statement}
 use Rattle.leaks.proofs.live.leak_at.Tie as tie
 
@@ -20,7 +19,6 @@ label-requires : tie.Need-label-requires
 label-requires c κs = held-slot (c .before .before .before .before .before .pre)
 
 returns : tie.Need-returns
-unfolding leakAt
 returns c = rw (c .before .before .before .before .id .ensures, c .before .before .before .first-byte .ensures, c .before .before .size .ensures, c .before .kind .ensures, c .label .ensures)
 
 pub leak-at-spec : {M : Type 1} → statement M

@@ -23,7 +23,7 @@ leak-at-requires : tie.Need-leak-at-requires
 leak-at-requires c κs = let t = is-fit _ (sym (c .before .before .before .table-fault .ensures) ∙ c .before .before .if1 .left) in held-from _ _ (t .0) (t .1) _ (c .before .slot-from .ensures) (c .if2 .left)
 
 returns-3 : tie.Need-returns-3
-returns-3 c = let t = is-fit _ (sym (c .before .before .before .before .table-fault .ensures) ∙ c .before .before .before .if1 .left) in rw (c .leak-at .ensures) (handed _ _ (t .0) (t .1) _ (c .before .before .slot-from .ensures) (c .before .if2 .left))
+returns-3 c = let t = is-fit _ (sym (c .before .before .before .before .table-fault .ensures) ∙ c .before .before .before .if1 .left) in c .leak-at .ensures ∙ handed _ _ (t .0) (t .1) _ (c .before .before .slot-from .ensures) (c .before .if2 .left)
 
 pub live-from-spec : {M : Type 1} → statement M
 live-from-spec =
