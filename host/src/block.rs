@@ -49,6 +49,15 @@ pub struct Block<'a> {
 }
 
 /// What a block is asked for.
+///
+/// ```
+/// use lunkaseyo::{Kind, Request};
+///
+/// let buffer = Request { size: 100, alignment: 1, kind: Kind::Linear, granularity: 1024, label: 7 };
+/// // What is not said is as in the buffer's.
+/// let image = Request { kind: Kind::NonLinear, alignment: 64, ..buffer };
+/// assert_eq!((image.size, image.granularity), (100, 1024));
+/// ```
 #[derive(Clone, Copy, Debug, PartialEq, Eq, Hash)]
 pub struct Request {
     /// How many bytes.
@@ -64,6 +73,12 @@ pub struct Request {
 }
 
 /// What memory is for. At the boundary a kind is a number, and any but these two is refused with 6.
+///
+/// ```
+/// use lunkaseyo::Kind;
+///
+/// assert_eq!([Kind::Linear as u64, Kind::NonLinear as u64], [1, 2]);
+/// ```
 #[derive(Clone, Copy, Debug, PartialEq, Eq, Hash)]
 #[repr(u64)]
 pub enum Kind {
@@ -82,6 +97,17 @@ impl Kind {
 }
 
 /// Memory that a block has handed out.
+///
+/// ```
+/// use lunkaseyo::{Allocation, Block, Kind, Request};
+///
+/// let mut words = [0; Block::words(2)];
+/// let mut block = Block::new(&mut words, 4096)?;
+/// let byte = Request { size: 1, alignment: 1, kind: Kind::Linear, granularity: 1, label: 0 };
+/// let Allocation { offset, id } = block.allocate(byte)?;
+/// assert_eq!((offset, id), (0, 2));
+/// # Ok::<(), lunkaseyo::Refusal>(())
+/// ```
 #[derive(Clone, Copy, Debug, PartialEq, Eq, Hash)]
 pub struct Allocation {
     /// Where in the block its bytes begin.
@@ -118,6 +144,16 @@ impl<'a> Block<'a> {
     }
 
     /// The block whose table `words` are, which nothing looks at before the first call.
+    ///
+    /// ```
+    /// use lunkaseyo::{Block, Refusal};
+    ///
+    /// let mut words = [0; Block::words(1)];
+    /// Block::new(&mut words, 4096)?;
+    /// assert_eq!(Block::over(&mut words).is_empty(), Ok(true));
+    /// assert_eq!(Block::over(&mut words[..10]).is_empty(), Err(Refusal::WordCount));
+    /// # Ok::<(), Refusal>(())
+    /// ```
     pub fn over(words: &'a mut [u64]) -> Self {
         Self { words }
     }
@@ -153,6 +189,18 @@ impl<'a> Block<'a> {
     /// Gives back the memory with this id. Free neighbours become one chunk.
     ///
     /// Refused with 1 and 2, then with 10 where no memory that is handed out has this id.
+    ///
+    /// ```
+    /// use lunkaseyo::{Block, Kind, Refusal, Request};
+    ///
+    /// let mut words = [0; Block::words(2)];
+    /// let mut block = Block::new(&mut words, 4096)?;
+    /// let byte = Request { size: 1, alignment: 1, kind: Kind::Linear, granularity: 1, label: 0 };
+    /// let id = block.allocate(byte)?.id;
+    /// assert_eq!(block.free(id), Ok(()));
+    /// assert_eq!(block.free(id), Err(Refusal::UnknownId));
+    /// # Ok::<(), Refusal>(())
+    /// ```
     pub fn free(&mut self, id: u64) -> Result<(), Refusal> {
         accepted(ffi::block_free(self.words, id))
     }
@@ -180,19 +228,54 @@ impl<'a> Block<'a> {
         accepted(ffi::block_rename_allocation(self.words, id, label))
     }
 
-    /// The bytes that are allocated, padding included.
+    /// The bytes that are allocated, padding included. Refused with 1 and 2.
+    ///
+    /// ```
+    /// use lunkaseyo::{Block, Kind, Request};
+    ///
+    /// let mut words = [0; Block::words(3)];
+    /// let mut block = Block::new(&mut words, 4096)?;
+    /// let aligned = Request { size: 1, alignment: 16, kind: Kind::Linear, granularity: 1, label: 0 };
+    /// block.allocate(aligned)?;
+    /// block.allocate(aligned)?;
+    /// // 15 bytes between the two
+    /// assert_eq!(block.allocated(), Ok(17));
+    /// # Ok::<(), lunkaseyo::Refusal>(())
+    /// ```
     pub fn allocated(&self) -> Result<u64, Refusal> {
         let mut allocated = 0;
         accepted(ffi::block_allocated(self.words, &mut allocated)).map(|()| allocated)
     }
 
-    /// Whether nothing is allocated.
+    /// Whether nothing is allocated. Refused with 1 and 2.
+    ///
+    /// ```
+    /// use lunkaseyo::{Block, Kind, Request};
+    ///
+    /// let mut words = [0; Block::words(2)];
+    /// let mut block = Block::new(&mut words, 4096)?;
+    /// assert_eq!(block.is_empty(), Ok(true));
+    /// let byte = Request { size: 1, alignment: 1, kind: Kind::Linear, granularity: 1, label: 0 };
+    /// block.allocate(byte)?;
+    /// assert_eq!(block.is_empty(), Ok(false));
+    /// # Ok::<(), lunkaseyo::Refusal>(())
+    /// ```
     pub fn is_empty(&self) -> Result<bool, Refusal> {
         let mut is_empty = 0;
         accepted(ffi::block_is_empty(self.words, &mut is_empty)).map(|()| is_empty != 0)
     }
 
     /// The table's words.
+    ///
+    /// ```
+    /// use lunkaseyo::Block;
+    ///
+    /// let mut words = [7; Block::words(1)];
+    /// let block = Block::new(&mut words, 4096)?;
+    /// // the head, and a slot with the one free chunk
+    /// assert_eq!(block.as_words(), [4096, 0, 2, 1, 1, 4096, 0, 0, 0, 0, 0]);
+    /// # Ok::<(), lunkaseyo::Refusal>(())
+    /// ```
     pub fn as_words(&self) -> &[u64] {
         self.words
     }

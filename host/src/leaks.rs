@@ -7,6 +7,17 @@ use crate::ffi;
 use crate::refusal::{accepted, Refusal};
 
 /// Memory that a block has handed out, as its table has it: with the padding before its offset.
+///
+/// ```
+/// use lunkaseyo::{Block, Kind, Leak, Request};
+///
+/// let mut words = [0; Block::words(1)];
+/// let mut block = Block::new(&mut words, 64)?;
+/// block.allocate(Request { size: 64, alignment: 1, kind: Kind::Linear, granularity: 1, label: 7 })?;
+/// let all = Leak { id: 1, first_byte: 0, size: 64, kind: Kind::Linear, label: 7 };
+/// assert_eq!(block.leaks()?.next(), Some(all));
+/// # Ok::<(), lunkaseyo::Refusal>(())
+/// ```
 #[derive(Clone, Copy, Debug, PartialEq, Eq, Hash)]
 pub struct Leak {
     /// What it is named by when it is renamed or given back.
@@ -24,6 +35,16 @@ pub struct Leak {
 /// A walk along the memory that a block has handed out, by rising address. [`Block::leaks`] starts it.
 ///
 /// Each step looks at the whole table, as every call on a block does.
+///
+/// ```
+/// use lunkaseyo::{Block, Leaks};
+///
+/// let mut words = [0; Block::words(8)];
+/// let block = Block::new(&mut words, 4096)?;
+/// let walk: Leaks = block.leaks()?;
+/// assert_eq!(walk.count(), 0, "nothing is handed out yet");
+/// # Ok::<(), lunkaseyo::Refusal>(())
+/// ```
 // The items are plain leaks, and no `Result`s. The words are borrowed for as long as the walk is there,
 // so nobody can write them, and a step asks of them what the start has found: it is never refused.
 #[derive(Clone, Debug)]

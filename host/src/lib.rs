@@ -3,7 +3,7 @@
 //! - [`Block`]: a free-list block, whose table lies in words of the caller. It is asked for memory by a
 //!   [`Request`], and gives an [`Allocation`].
 //! - [`Block::leaks`]: the memory that a block has handed out and not got back, a [`Leak`] at a time.
-//! - [`DedicatedBlock`]: a block that holds one allocation, which takes all of it.
+//! - [`Dedicated`]: a block that holds one allocation, which takes all of it.
 //! - [`AllocationSizes`]: how large the next memory block is to be.
 //! - [`fmt_bytes`] and [`byte_text`]: an amount of memory as text.
 //!
@@ -32,7 +32,7 @@ mod sizes;
 mod text;
 
 pub use block::{Allocation, Block, Kind, Request};
-pub use dedicated::{DedicatedBlock, Report};
+pub use dedicated::{Dedicated, Report};
 pub use leaks::{Leak, Leaks};
 pub use refusal::Refusal;
 pub use sizes::AllocationSizes;

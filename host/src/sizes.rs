@@ -41,6 +41,12 @@ pub struct AllocationSizes {
 
 impl AllocationSizes {
     /// Blocks of one size for the device and one for the host, each brought into the rules.
+    ///
+    /// ```
+    /// const MB: u64 = 1024 * 1024;
+    /// let sizes = lunkaseyo::AllocationSizes::new(5 * MB, 257 * MB);
+    /// assert_eq!(<[u64; 4]>::from(sizes), [8 * MB, 8 * MB, 256 * MB, 256 * MB]);
+    /// ```
     pub fn new(device_memblock_size: u64, host_memblock_size: u64) -> Self {
         let mut words = Words::default();
         ffi::sizes_new(device_memblock_size, host_memblock_size, &mut words);
@@ -48,19 +54,48 @@ impl AllocationSizes {
     }
 
     /// The same sizes with device blocks growing to `size`, brought into the rules and to the
-    /// minimum at least.
+    /// minimum at least. Refused with number 14.
+    ///
+    /// ```
+    /// const MB: u64 = 1024 * 1024;
+    /// let sizes = lunkaseyo::AllocationSizes::new(8 * MB, 8 * MB);
+    /// let growing = sizes.with_max_device_memblock_size(255 * MB)?;
+    /// assert_eq!(growing.max_device_memblock_size, 256 * MB);
+    /// assert_eq!(sizes.with_max_device_memblock_size(0), Ok(sizes));
+    /// # Ok::<(), lunkaseyo::Refusal>(())
+    /// ```
     pub fn with_max_device_memblock_size(self, size: u64) -> Result<Self, Refusal> {
         self.changed(ffi::sizes_with_max_device_memblock_size, size)
     }
 
     /// The same sizes with host blocks growing to `size`, brought into the rules and to the
-    /// minimum at least.
+    /// minimum at least. Refused with number 14.
+    ///
+    /// ```
+    /// const MB: u64 = 1024 * 1024;
+    /// let growing = lunkaseyo::AllocationSizes::new(8 * MB, 4 * MB).with_max_host_memblock_size(13 * MB)?;
+    /// assert_eq!(growing.max_host_memblock_size, 16 * MB);
+    /// # Ok::<(), lunkaseyo::Refusal>(())
+    /// ```
     pub fn with_max_host_memblock_size(self, size: u64) -> Result<Self, Refusal> {
         self.changed(ffi::sizes_with_max_host_memblock_size, size)
     }
 
     /// The size of the next block, for the host or the device, where `count` blocks are open: the
-    /// minimum doubled for each of them, at most the maximum.
+    /// minimum doubled for each of them, at most the maximum. Refused with number 14.
+    ///
+    /// ```
+    /// use lunkaseyo::{AllocationSizes, Refusal};
+    ///
+    /// const MB: u64 = 1024 * 1024;
+    /// let growing = AllocationSizes::new(8 * MB, 8 * MB).with_max_device_memblock_size(64 * MB)?;
+    /// for (count, size) in [(0, 8), (1, 16), (3, 64), (9, 64)] {
+    ///     assert_eq!(growing.get_memblock_size(false, count), Ok(size * MB));
+    /// }
+    /// let odd = AllocationSizes { min_host_memblock_size: 0, ..growing };
+    /// assert_eq!(odd.get_memblock_size(false, 0), Err(Refusal::Sizes));
+    /// # Ok::<(), Refusal>(())
+    /// ```
     pub fn get_memblock_size(self, is_host: bool, count: u64) -> Result<u64, Refusal> {
         let mut size = 0;
         let number =
@@ -80,6 +115,12 @@ impl AllocationSizes {
 
 impl Default for AllocationSizes {
     /// 256 MiB for the device, 64 MiB for the host.
+    ///
+    /// ```
+    /// let sizes = lunkaseyo::AllocationSizes::default();
+    /// assert_eq!(sizes.min_device_memblock_size, 256 << 20);
+    /// assert_eq!(sizes.min_host_memblock_size, 64 << 20);
+    /// ```
     fn default() -> Self {
         let mut words = Words::default();
         ffi::sizes_default(&mut words);

@@ -36,6 +36,12 @@ pub fn byte_text(amount: u64) -> Result<ByteText, Refusal> {
 }
 
 /// The text of [`byte_text`], held without the heap.
+///
+/// ```
+/// let text: lunkaseyo::ByteText = lunkaseyo::byte_text(1152)?;
+/// assert_eq!(text.to_string(), "1.12 KB");
+/// # Ok::<(), lunkaseyo::Refusal>(())
+/// ```
 #[derive(Clone, Copy, Debug, PartialEq, Eq, Hash)]
 pub struct ByteText {
     bytes: [u8; Self::LONGEST],
@@ -44,9 +50,20 @@ pub struct ByteText {
 
 impl ByteText {
     /// The length of the longest text, `1024.00 KB`.
+    ///
+    /// ```
+    /// let text = lunkaseyo::byte_text(1024 * 1024 - 1)?;
+    /// assert_eq!(text.as_str().len(), lunkaseyo::ByteText::LONGEST);
+    /// # Ok::<(), lunkaseyo::Refusal>(())
+    /// ```
     pub const LONGEST: usize = 10;
 
     /// The text.
+    ///
+    /// ```
+    /// assert_eq!(lunkaseyo::byte_text(0)?.as_str(), "0.00 B");
+    /// # Ok::<(), lunkaseyo::Refusal>(())
+    /// ```
     pub fn as_str(&self) -> &str {
         std::str::from_utf8(&self.bytes[..self.length])
             .expect("digits, a point, a space and a unit")

@@ -1,6 +1,6 @@
 //! Worked examples of dedicated blocks, through the safe wrapper.
 
-use lunkaseyo::{ffi, Allocation, DedicatedBlock, Kind, Refusal, Report, Request};
+use lunkaseyo::{ffi, Allocation, Dedicated, Kind, Refusal, Report, Request};
 
 /// All of a block of 4096 bytes.
 const ALL: Request = Request {
@@ -15,12 +15,12 @@ fn number<T: std::fmt::Debug>(answer: Result<T, Refusal>) -> u64 {
     answer.expect_err("this call is to be refused").number()
 }
 
-fn new(size: u64) -> DedicatedBlock {
-    DedicatedBlock::new(size).expect("the size is not 0")
+fn new(size: u64) -> Dedicated {
+    Dedicated::new(size).expect("the size is not 0")
 }
 
 /// Fails unless the block is sound and has these words, and its questions answer by them.
-fn assert_is(block: &DedicatedBlock, [size, allocated, label]: [u64; 3]) {
+fn assert_is(block: &Dedicated, [size, allocated, label]: [u64; 3]) {
     assert_eq!(block.as_words(), &[size, allocated, label]);
     assert_eq!(block.allocated(), Ok(allocated));
     assert_eq!(block.is_empty(), Ok(allocated == 0));
@@ -37,7 +37,7 @@ fn a_block_has_1_to_2_64_minus_1_bytes() {
     for size in [1, 4096, (1 << 40) + 1, u64::MAX] {
         assert_is(&new(size), [size, 0, 0]);
     }
-    assert_eq!(number(DedicatedBlock::new(0)), 13);
+    assert_eq!(number(Dedicated::new(0)), 13);
 
     let mut record = [7; 3];
     assert_eq!(ffi::dedicated_new(&mut record, 0), 13);
@@ -93,7 +93,7 @@ fn requests_that_are_refused() {
         ..sized(4095)
     };
     let occupied = [4096, 4096, 5];
-    let mut taken = DedicatedBlock::from_words(occupied);
+    let mut taken = Dedicated::from_words(occupied);
     // each with every fault that comes after it
     for (request, refusal) in [
         (Request { size: 0, ..faulty }, 3),
@@ -133,7 +133,7 @@ fn a_kind_is_a_whole_number() {
 #[test]
 fn the_id_is_1() {
     for words in [[4096, 4096, 7], [4096, 0, 7]] {
-        let mut block = DedicatedBlock::from_words(words);
+        let mut block = Dedicated::from_words(words);
         for id in [0, 2, 1 << 32 | 1, u64::MAX] {
             assert_eq!(number(block.free(id)), 18, "id {id}");
             assert_eq!(number(block.rename_allocation(id, 5)), 18, "id {id}");
@@ -145,7 +145,7 @@ fn the_id_is_1() {
 #[test]
 fn a_record_that_is_not_sound_is_refusal_2() {
     for words in [[0, 0, 0], [0, 1, 7], [2, 1, 7], [2, 3, 0], [u64::MAX, 1, 0]] {
-        let mut block = DedicatedBlock::from_words(words);
+        let mut block = Dedicated::from_words(words);
         assert_eq!(number(block.allocated()), 2);
         assert_eq!(number(block.is_empty()), 2);
         assert_eq!(number(block.report_allocations()), 2);
@@ -159,11 +159,11 @@ fn a_record_that_is_not_sound_is_refusal_2() {
 
 #[test]
 fn refusals_say_why() {
-    let mut block = DedicatedBlock::from_words([4096, 4096, 0]);
+    let mut block = Dedicated::from_words([4096, 4096, 0]);
     let occupied = block.allocate(ALL).unwrap_err();
     let id = block.free(2).unwrap_err();
     let size = new(4095).allocate(ALL).unwrap_err();
-    let unsound = DedicatedBlock::from_words([0; 3]).is_empty().unwrap_err();
+    let unsound = Dedicated::from_words([0; 3]).is_empty().unwrap_err();
     for (refusal, why) in [
         (occupied, "refusal 11: the dedicated block is occupied"),
         (

@@ -4,7 +4,7 @@ use std::collections::HashSet;
 use std::hint::black_box;
 use std::panic::catch_unwind;
 
-use lunkaseyo::{ffi, fmt_bytes, AllocationSizes, Block, DedicatedBlock, Refusal};
+use lunkaseyo::{ffi, fmt_bytes, AllocationSizes, Block, Dedicated, Refusal};
 use lunkaseyo_compare::boundary::MB;
 use lunkaseyo_compare::calls::{asked, Answer, Call};
 use lunkaseyo_compare::dedicated::calls as dedicated;
@@ -296,7 +296,7 @@ fn a_dedicated_block_that_is_allocated_in_part() {
     assert_eq!(theirs.allocated(), 1);
     assert_eq!(rust::reported(&theirs)[0].2, 2);
 
-    let ours = DedicatedBlock::from_words([2, 1, 0]);
+    let ours = Dedicated::from_words([2, 1, 0]);
     assert_eq!(number(ours.allocated()), Some(2));
     assert_eq!(number(ours.report_allocations()), Some(2));
 }
