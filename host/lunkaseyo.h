@@ -6,12 +6,16 @@
  * and leaves `buf`, `words`, `record` and the `place` of a step as they were. What an out-value held before the call
  * never matters.
  *
- * Pointers. No pointer may be NULL. Each points to memory of the caller, aligned as its type asks, that is there for the
- * whole call: one value behind `written`, `size`, `offset`, `id`, `allocated`, `is_empty` and `place`, three behind
- * `record` and `report`, four behind `sizes`, five behind `leak`, `buf_len` bytes behind `buf`, `words_len` words behind
- * `words`. Where `buf_len` or `words_len` is 0 nothing is read or written behind `buf` or `words`, and any pointer that is
- * not NULL will do. Two pointers of one call must not reach the same memory. Nothing is kept after the call, and there is
- * no state: any thread may call at any time.
+ * Slices. `buf` with `buf_len` and `words` with `words_len` are slices: `buf_len` bytes behind `buf`, `words_len` words
+ * behind `words`. Where the length is 0 the pointer may be anything, NULL too: it is the empty slice, nothing is read or
+ * written behind it, and the call is answered as for any slice that is too short: refusal 1 where it is of words, 16 where
+ * it is for a text, after 15. Where the length is not 0 the pointer is one as below.
+ *
+ * Pointers. No other pointer may be NULL. Each points to memory of the caller, aligned as its type asks, that is there for
+ * the whole call: one value behind `written`, `size`, `offset`, `id`, `allocated`, `is_empty` and `place`, three behind
+ * `record` and `report`, four behind `sizes`, five behind `leak`. Two pointers of one call must not reach the same memory.
+ * What is declared `const` is only read. Nothing is kept after the call, and there is no state: any thread may call at any
+ * time.
  */
 #ifndef LUNKASEYO_H
 #define LUNKASEYO_H

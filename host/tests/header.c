@@ -346,6 +346,51 @@ static void leaks(void)
     EXPECT(steps(spoilt, 18, 7, 2, none, 7));
 }
 
+/* NULL with length 0 is the empty slice, and each call is refused by the first number that it has for a slice. */
+static void empty_texts(void)
+{
+    uint64_t length;
+
+    spoil(&length, 1);
+    EXPECT(lunkaseyo_fmt_bytes(0, NULL, 0, &length) == 16 && length == 0);
+    spoil(&length, 1);
+    EXPECT(lunkaseyo_fmt_bytes((uint64_t)1 << 50, NULL, 0, &length) == 15 && length == 0);
+}
+
+static void empty_tables(void)
+{
+    const uint64_t none[5] = {0, 0, 0, 0, 0};
+    uint64_t offset, id, allocated, is_empty, place, leak[5];
+
+    EXPECT(lunkaseyo_block_new(NULL, 0, 4096) == 1);
+    spoil(&offset, 1);
+    spoil(&id, 1);
+    EXPECT(lunkaseyo_block_allocate(NULL, 0, 100, 1, 1, 1024, 7, &offset, &id) == 1 && offset == 0 && id == 0);
+    EXPECT(lunkaseyo_block_free(NULL, 0, 1) == 1);
+    EXPECT(lunkaseyo_block_rename_allocation(NULL, 0, 1, 7) == 1);
+    spoil(&allocated, 1);
+    EXPECT(lunkaseyo_block_allocated(NULL, 0, &allocated) == 1 && allocated == 0);
+    spoil(&is_empty, 1);
+    EXPECT(lunkaseyo_block_is_empty(NULL, 0, &is_empty) == 1 && is_empty == 0);
+    spoil(&place, 1);
+    EXPECT(lunkaseyo_leaks_start(NULL, 0, &place) == 1 && place == 0);
+    spoil(leak, 5);
+    place = 7;
+    EXPECT(lunkaseyo_leaks_step(NULL, 0, &place, leak) == 1 && memcmp(leak, none, sizeof none) == 0 && place == 7);
+}
+
+/* A pointer to a page that no process may touch, as good with length 0 as NULL. */
+static void empty_slices_elsewhere(void)
+{
+    uint64_t *words = (uint64_t *)UINTPTR_MAX, allocated, length;
+
+    EXPECT(lunkaseyo_block_new(words, 0, 4096) == 1);
+    spoil(&allocated, 1);
+    EXPECT(lunkaseyo_block_allocated(words, 0, &allocated) == 1 && allocated == 0);
+    spoil(&length, 1);
+    EXPECT(lunkaseyo_fmt_bytes(0, (uint8_t *)words, 0, &length) == 16 && length == 0);
+}
+
 int main(void)
 {
     text();
@@ -360,5 +405,8 @@ int main(void)
     calls_of_a_dedicated_block();
     refused_dedicated_requests();
     refused_dedicated_blocks();
+    empty_texts();
+    empty_tables();
+    empty_slices_elsewhere();
     return faults;
 }

@@ -1,33 +1,61 @@
-//! `lunkaseyo.h` from C: compiles tests/header.c with the machine's C compiler, links it to the
-//! archive and runs it.
+//! `lunkaseyo.h` from C: it declares what the archive has, and tests/header.c calls all of it and gets the answers.
 
-use std::path::Path;
+mod c;
+
+use std::collections::BTreeSet;
+use std::fs;
 use std::process::Command;
+
+/// The functions that a source declares or calls: our names with a bracket behind them.
+fn names_in(source: &str) -> BTreeSet<String> {
+    let text = fs::read_to_string(c::file(source)).expect("a source of this package");
+    let name = |(at, _)| {
+        let (name, _) = text[at..].split_once('(')?;
+        let is_one_word = name.chars().all(|c| c == '_' || c.is_ascii_alphanumeric());
+        is_one_word.then(|| name.to_owned())
+    };
+    text.match_indices("lunkaseyo_").filter_map(name).collect()
+}
+
+/// The last word of each line that `nm` prints of a file, where it prints several: a symbol's name.
+fn symbols(file: impl AsRef<std::ffi::OsStr>, which: &[&str]) -> BTreeSet<String> {
+    let listed = c::run(Command::new("nm").args(which).arg(file.as_ref()));
+    let symbol = |line: &str| {
+        let mut fields = line.split_whitespace().rev();
+        let name = fields.next()?;
+        fields.next().map(|_| name.to_owned())
+    };
+    listed.lines().filter_map(symbol).collect()
+}
 
 #[test]
 fn a_c_program_links_and_gets_the_answers() {
-    let package = Path::new(env!("CARGO_MANIFEST_DIR"));
-    let program = Path::new(env!("CARGO_TARGET_TMPDIR")).join("header");
-    run(Command::new("cc")
-        .args(["-std=c99", "-pedantic", "-Wall", "-Wextra", "-Werror"])
-        .arg("-I")
-        .arg(package)
-        .arg(package.join("tests/header.c"))
-        .arg(env!("LUNKASEYO_ARCHIVE"))
-        .arg("-o")
-        .arg(&program));
-    run(&mut Command::new(&program));
+    assert_eq!(c::output_of("tests/header.c", "header"), "");
 }
 
-fn run(command: &mut Command) {
-    let ended = command
-        .output()
-        .unwrap_or_else(|fault| panic!("{command:?}: {fault}"));
-    assert!(
-        ended.status.success(),
-        "{command:?}: {}\n{}{}",
-        ended.status,
-        String::from_utf8_lossy(&ended.stdout),
-        String::from_utf8_lossy(&ended.stderr),
+#[test]
+fn the_archive_has_what_the_header_declares() {
+    let declared = names_in("lunkaseyo.h");
+    assert_eq!(declared.len(), 21);
+    let defined = symbols(
+        env!("LUNKASEYO_ARCHIVE"),
+        &["--extern-only", "--defined-only"],
     );
+    assert_eq!(defined, declared);
+    assert_eq!(names_in("src/ffi.rs"), declared);
+}
+
+#[test]
+fn the_c_program_calls_what_the_header_declares() {
+    // what the compiler left to the archive: a name in a comment is not among it
+    let object = c::made("calls.o");
+    let source = c::file("tests/header.c");
+    c::run(c::compiler().arg("-c").arg(source).arg("-o").arg(&object));
+    let called = symbols(&object, &["--undefined-only"]);
+    for name in names_in("lunkaseyo.h") {
+        assert!(
+            called.contains(&name),
+            "tests/header.c does not call {name}"
+        );
+    }
 }
