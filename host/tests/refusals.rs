@@ -31,7 +31,7 @@ fn each_number_has_a_variant_and_no_other_number_has() {
     assert_eq!(all, numbers().collect::<Vec<_>>());
     for number in (0..100).chain([257, 1 << 32 | 1, u64::MAX]) {
         let named = numbers().any(|known| known == number);
-        let expected = named.then(|| number);
+        let expected = named.then_some(number);
         assert_eq!(Refusal::of(number).map(Refusal::number), expected);
     }
 }
