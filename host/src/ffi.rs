@@ -159,7 +159,7 @@ pub fn sizes_new(device_memblock_size: u64, host_memblock_size: u64, sizes: &mut
 /// `lunkaseyo_sizes_default`
 ///
 /// ```
-/// let mut sizes = [0; 4];
+/// let mut sizes: lunkaseyo::ffi::Words = [0; 4];
 /// lunkaseyo::ffi::sizes_default(&mut sizes);
 /// assert_eq!(sizes, [256 << 20, 256 << 20, 64 << 20, 64 << 20]);
 /// ```

@@ -7,7 +7,8 @@
 //! - [`AllocationSizes`]: how large the next memory block is to be.
 //! - [`fmt_bytes`] and [`byte_text`]: an amount of memory as text.
 //!
-//! A call that cannot be answered gives a [`Refusal`] with its number, and changes nothing.
+//! A call that cannot be answered gives a [`Refusal`], which has a number and a sentence, and changes nothing.
+//! The example program `hour` shows them together: `cargo run --offline --example hour`.
 //!
 //! ```
 //! use lunkaseyo::{byte_text, AllocationSizes, Refusal};

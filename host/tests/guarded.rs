@@ -1,7 +1,7 @@
-//! No byte outside of what is lent is read or written: every slice and out-value lies flush against a page that
-//! nobody may touch, once at its front and once at its back. Words that are lent to be read, those of a call on a
-//! table that is refused, and the buffer of a text that is, lie in pages that may only be read. A wrong access ends
-//! the process.
+//! No byte outside of what is lent is read or written: every slice and out-value lies flush against a page
+//! that nobody may touch, once at its front and once at its back. Words that are lent to be read, those of a
+//! call on a table that is refused, and the buffer of a text that is, lie in pages that may only be read. A
+//! wrong access ends the process.
 
 mod guard;
 

@@ -9,6 +9,8 @@
 //! that unit's image over night, to show a leak. The status is 1 where two ranges overlap or share a page
 //! that they may not, and 2 where a file cannot be read or an argument is wrong.
 
+#![forbid(unsafe_code)]
+
 mod check;
 mod night;
 mod options;
