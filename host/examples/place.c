@@ -2,8 +2,8 @@
  * Places two buffers and an image in a block of graphics memory, gives one back, and prints where everything stands.
  * From the repository's folder, with the Rattle kit (`rt`) on the path:
  *
- *     mkdir -p out && host/archive out
- *     cc -I host host/examples/place.c out/liblunkaseyo.a -o place && ./place
+ *     mkdir -p target && host/archive target
+ *     cc -I host host/examples/place.c target/liblunkaseyo.a -o target/place && target/place
  */
 #include "lunkaseyo.h"
 
