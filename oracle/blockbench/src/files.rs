@@ -15,21 +15,20 @@ pub fn write_calls(seed: u64, lines: u64, mut output: impl Write) -> io::Result<
     output.flush()
 }
 
-/// Writes this many damaged lines, and about as many others between them. The last line has no line feed.
+/// Writes this many damaged lines, and about as many others between them. The last line is a whole one without its line feed.
 pub fn write_damaged(seed: u64, lines: u64, mut output: impl Write) -> io::Result<()> {
     let mut script = Script::seeded(seed);
     let mut random = Random::seeded(!seed);
-    for number in 1..=lines {
+    for _ in 0..lines {
         for _ in 0..random.below(3) {
             write_whole(&mut script, &mut output)?;
         }
-        let line = damaged(&mut script, &mut random);
+        let mut line = damaged(&mut script, &mut random);
         script.follow(&line);
+        line.push(b'\n');
         output.write_all(&line)?;
-        if number < lines {
-            output.write_all(b"\n")?;
-        }
     }
+    output.write_all(b"n 1 1")?;
     output.flush()
 }
 

@@ -12,7 +12,7 @@ pub struct Habits {
     reach: u64,
     /// One in so many requests is one of the others, on average.
     others: u64,
-    /// Alignments and granularities have fewer bits than this.
+    /// Most alignments have fewer bits than this.
     bits: u64,
     /// The granularity of most requests.
     page: u64,
@@ -28,7 +28,7 @@ impl Habits {
         let chunks = random.pick(&[2 * slots, slots, any]);
         let reach = 1 + (size / chunks).saturating_mul(2);
         let near = u64::from(64 - reach.leading_zeros());
-        let bits = random.pick(&[1, 1, 1 + near / 2, near, near, 64]);
+        let bits = random.pick(&[1, 1 + near / 2, near]);
         Self {
             sizes: [(); 2].map(|()| 1 + random.below(reach)),
             reach,
@@ -42,7 +42,7 @@ impl Habits {
     /// Whether the next call gives memory back. Now and then the habit changes.
     pub fn frees(&mut self, block: Option<&Block>, random: &mut Random) -> bool {
         if random.once_in(2 * block.map_or(1, Block::slots)) {
-            self.frees = random.pick(&[5, 25, 45, 50, 70]);
+            self.frees = random.pick(&[5, 15, 30, 40, 60]);
         }
         let left = block.map_or(0, |block| block.rust().size - block.allocated());
         let frees = match block {
@@ -69,20 +69,19 @@ impl Habits {
     }
 
     fn usual(&self, random: &mut Random) -> Request {
-        let (bits, any_page) = (random.below(self.bits), random.below(64));
+        let is_other = random.once_in(self.others);
+        let (size, other) = (random.pick(&self.sizes), 1 + random.below(self.reach));
+        let (near, power) = (1 << random.below(self.bits), 1 << random.below(64));
+        let (alignment, granularity) = match random.below(16) {
+            0 => (power, self.page),
+            1 => (near, power),
+            _ => (near, self.page),
+        };
         Request {
-            size: if random.once_in(self.others) {
-                1 + random.below(self.reach)
-            } else {
-                random.pick(&self.sizes)
-            },
-            alignment: 1 << bits,
+            size: if is_other { other } else { size },
+            alignment,
             kind: 1 + random.below(2),
-            granularity: if random.once_in(16) {
-                1 << any_page
-            } else {
-                self.page
-            },
+            granularity,
             label: random.up_to_bits(64),
         }
     }

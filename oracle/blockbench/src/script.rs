@@ -103,10 +103,11 @@ fn any_size(random: &mut Random) -> u64 {
     }
 }
 
-/// A size that no block may have.
+/// A size that no block may have. Some are one but for a bit that is too high.
 fn refused_size(random: &mut Random) -> u64 {
+    let near = any_size(random) | 1 << (41 + random.below(23));
     let above = LARGEST + 1 + random.up_to_bits(63);
-    random.pick(&[0, 0, LARGEST + 1, above, u64::MAX])
+    random.pick(&[0, 0, LARGEST + 1, near, above, u64::MAX])
 }
 
 /// Any number of slots, most often 4 to 64.
@@ -120,17 +121,20 @@ fn any_slots(random: &mut Random) -> u64 {
     }
 }
 
-/// A number that is none of slots.
+/// A number that is none of slots. Some are one but for a bit that is too high.
 fn unreadable_slots(random: &mut Random) -> u64 {
+    let near = any_slots(random) | 1 << (10 + random.below(54));
     let above = MOST_SLOTS + 1 + random.up_to_bits(63);
-    let wrapping = (1 + random.below(MOST_SLOTS)) << 32 | 1 << 63;
-    random.pick(&[0, 0, MOST_SLOTS + 1, above, wrapping, u64::MAX])
+    random.pick(&[0, 0, MOST_SLOTS + 1, near, near, above, u64::MAX])
 }
 
 /// How many calls are made on a block: enough to fill it several times, now and then very many.
 fn run_length(slots: u64, random: &mut Random) -> u64 {
-    if slots <= 64 && random.once_in(400) {
-        return 10_000 + random.below(20_000);
+    let usual = slots * (2 + random.below(12));
+    match random.below(20_000) {
+        // enough for ids of more than 16 bits
+        0 => 400_000,
+        1..=50 if slots <= 64 => 10_000 + random.below(20_000),
+        _ => usual,
     }
-    slots * (2 + random.below(12))
 }
