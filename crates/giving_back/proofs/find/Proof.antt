@@ -1,4 +1,4 @@
--- `block::giving_back::find` meets its contract. Assumes nothing.
+-- `giving_back::find` meets its contract. Assumes nothing.
 use mathlib.Core.Path.{sym, _∙_}
 use Rattle.opening.specs.Fault.{is-fit}
 use Rattle.giving_back.proofs.Answered.{not-looked, not-found, was-found}

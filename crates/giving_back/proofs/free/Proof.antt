@@ -1,4 +1,4 @@
--- `block::giving_back::free` meets its contract. Assumes nothing.
+-- `giving_back::free` meets its contract. Assumes nothing.
 use Rattle.giving_back.proofs.Answered.{found-live, free-refused, free-done}
 use Rattle.giving_back.specs.GivingBack.{replyFound}
 use mathlib.Core.Path.{sym, ap, _∙_}

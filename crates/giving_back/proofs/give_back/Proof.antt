@@ -1,4 +1,4 @@
--- `block::giving_back::give_back` meets its contract. Assumes nothing.
+-- `giving_back::give_back` meets its contract. Assumes nothing.
 use Rattle.giving_back.proofs.GivenBack.{sets-free, in₁, bounded₁, in₂, bounded₂, given-back}
 use borrow.Author.Needs.{needs}
 use Rattle.giving_back.proofs.give_back.Statement.{statement}

@@ -1,4 +1,4 @@
--- `block::giving_back::join_next` meets its contract. Assumes nothing.
+-- `giving_back::join_next` meets its contract. Assumes nothing.
 use Rattle.words.specs.Spots.{in-table}
 use mathlib.Core.Path.{sym, _∙_}
 use Rattle.giving_back.proofs.GivenBack.{no-next, next-held, next-live, next-joins, next-joined}

@@ -1,4 +1,4 @@
--- `block::giving_back::join_previous` meets its contract. Assumes nothing.
+-- `giving_back::join_previous` meets its contract. Assumes nothing.
 use Rattle.giving_back.proofs.GivenBack.{no-previous, previous-held, previous-live, previous-joins, previous-joined}
 use Rattle.words.specs.Spots.{in-table}
 use mathlib.Core.Path.{sym, _∙_}

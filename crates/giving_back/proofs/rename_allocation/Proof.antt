@@ -1,4 +1,4 @@
--- `block::giving_back::rename_allocation` meets its contract. Assumes nothing.
+-- `giving_back::rename_allocation` meets its contract. Assumes nothing.
 use Rattle.giving_back.proofs.Answered.{found-live, rename-refused, rename-done}
 use Rattle.giving_back.specs.GivingBack.{replyFound}
 use Rattle.words.specs.Spots.{in-table}

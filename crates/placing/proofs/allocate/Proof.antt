@@ -1,4 +1,4 @@
--- `block::placing::allocate` meets its contract. Assumes nothing.
+-- `placing::allocate` meets its contract. Assumes nothing.
 use Rattle.placing.proofs.Placed.{no-block, ill-formed, no-room, on-chosen, chosen-in}
 use Rattle.opening.specs.Fault.{is-fit}
 use mathlib.Core.Path.{sym, _∙_}

@@ -1,4 +1,4 @@
--- `block::placing::place_in` meets its contract. Assumes nothing.
+-- `placing::place_in` meets its contract. Assumes nothing.
 use Rattle.placing.proofs.Placed.{slot-in, kind-live, takes-whole, above, short, measured, whole}
 use native.Mathlib.Omega.{arith}
 use borrow.Author.Needs.{needs}

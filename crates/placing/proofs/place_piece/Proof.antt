@@ -1,4 +1,4 @@
--- `block::placing::place_piece` meets its contract. Assumes nothing.
+-- `placing::place_piece` meets its contract. Assumes nothing.
 use Rattle.placing.proofs.Placed.{no-id, no-slot, splits, new-unused, piece, kind-live}
 use native.Mathlib.Omega.{arith}
 use borrow.Author.Needs.{needs}
