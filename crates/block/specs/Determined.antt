@@ -4,8 +4,8 @@ use mathlib.Core.List.{List}
 use mathlib.Core.Path.{_≡_}
 use Rattle.model.specs.Placing.{Request}
 use Rattle.sub_allocator.specs.Answers.{replyPlacement, replyChanged, one-placement, one-change, one-outcome}
-use Rattle.block.specs.Placing.{allocateOn}
-use Rattle.block.specs.GivingBack.{freeOn, renameOn}
+use Rattle.placing.specs.Placing.{allocateOn}
+use Rattle.giving_back.specs.GivingBack.{freeOn, renameOn}
 use Rattle.sub_allocator.specs.declared.answers.Placement.{Placement}
 use Rattle.sub_allocator.specs.declared.answers.Changed.{Changed}
 

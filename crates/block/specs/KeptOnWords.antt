@@ -22,13 +22,13 @@ use Rattle.words.specs.Rows.{encode-length}
 use Rattle.words.specs.Written.{decode-encode}
 use Rattle.words.specs.Checked.{decode-exactly}
 use Rattle.opening.specs.Look.{onTable}
-use Rattle.block.specs.Calls.{leaves}
+use Rattle.opening.specs.Calls.{leaves}
 use Rattle.sub_allocator.specs.Answers.{Given}
-use Rattle.block.specs.Placing.{given, allocateOn}
-use Rattle.block.specs.GivingBack.{changes, freeOn, renameOn}
+use Rattle.placing.specs.Placing.{given, allocateOn}
+use Rattle.giving_back.specs.GivingBack.{changes, freeOn, renameOn}
 use Rattle.opening.specs.Questions.{allocatedOn}
 use Rattle.opening.specs.Looked.{TableWords, table-exactly, sound-answered}
-use Rattle.block.specs.Outcomes.{call-accepted, outcome-accepted}
+use Rattle.opening.specs.Outcomes.{call-accepted, outcome-accepted}
 use Rattle.block.specs.Refused.{LiveSlot, free-accepted}
 use Rattle.block.specs.RoomOnWords.{BestAt, best-words}
 use Rattle.block.specs.SlotsOnWords.{table-known, spot-stands}

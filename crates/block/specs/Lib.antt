@@ -1,9 +1,6 @@
--- The calls that change a free-list block: what they answer, and what is proved of that.
+-- The calls that change a free-list block: what is proved of their definitions, and of runs of them.
 
--- the definitions
-pub mod Calls
-pub mod Placing
-pub mod GivingBack
+-- the definition of runs
 pub mod Runs
 -- when each call is refused; demand 3 on words; what a call keeps; that it has one outcome
 pub mod Refused
@@ -18,5 +15,4 @@ pub mod RunsLines
 pub mod TenSteps
 pub mod CallExamples
 -- on the way to these
-pub mod Outcomes
 pub mod SlotsOnWords

@@ -19,10 +19,10 @@ use Rattle.words.specs.Words.{blockOf, decode}
 use Rattle.words.specs.Soundness.{Used, Sound}
 use Rattle.opening.specs.Look.{onTable}
 use Rattle.sub_allocator.specs.Answers.{Given}
-use Rattle.block.specs.Placing.{given, allocateOn}
-use Rattle.block.specs.GivingBack.{changes, freeOn, renameOn}
+use Rattle.placing.specs.Placing.{given, allocateOn}
+use Rattle.giving_back.specs.GivingBack.{changes, freeOn, renameOn}
 use Rattle.opening.specs.Looked.{TableWords, sound-answered}
-use Rattle.block.specs.Outcomes.{outcome-kept, outcome-accepted, outcome-1, outcome-2, outcome-later, outcome-range}
+use Rattle.opening.specs.Outcomes.{outcome-kept, outcome-accepted, outcome-1, outcome-2, outcome-later, outcome-range}
 use Rattle.block.specs.SlotsOnWords.{table-known, spot-stands, none-live-words, all-used-words}
 use Rattle.block.specs.RoomOnWords.{RoomAt, SplitsAt, PlacedAt, no-room-words, splits-words, placed-accepted, room-accepted}
 

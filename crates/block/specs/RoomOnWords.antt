@@ -21,11 +21,11 @@ use Rattle.model.specs.Slots.{Unused, new-slot}
 use Rattle.table.specs.Layout.{Slot, nextId, idAt, sizeAt, firstByteAt, kindAt, nextAt, previousAt}
 use Rattle.words.specs.Words.{slotOf, blockOf}
 use Rattle.words.specs.Soundness.{Used, Sound}
-use Rattle.block.specs.Calls.{leaves}
+use Rattle.opening.specs.Calls.{leaves}
 use Rattle.sub_allocator.specs.Answers.{Given}
-use Rattle.block.specs.Placing.{given, allocateOn}
+use Rattle.placing.specs.Placing.{given, allocateOn}
 use Rattle.opening.specs.Looked.{TableWords, sound-answered}
-use Rattle.block.specs.Outcomes.{told-refused, outcome-accepted}
+use Rattle.opening.specs.Outcomes.{told-refused, outcome-accepted}
 use Rattle.block.specs.SlotsOnWords.{Standing, table-known, spot-stands, slot-holds, every-chunk}
 
 -- the bytes of the chunk in slot k, as Vulkan's rule takes them

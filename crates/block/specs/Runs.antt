@@ -9,8 +9,8 @@ use Rattle.model.specs.Runs.Call.{allocate, free, renameTo}
 use Rattle.opening.specs.Creation.{newOn}
 use Rattle.opening.specs.Questions.{allocatedOn}
 use Rattle.sub_allocator.specs.Answers.{Given}
-use Rattle.block.specs.Placing.{allocateOn}
-use Rattle.block.specs.GivingBack.{freeOn, renameOn}
+use Rattle.placing.specs.Placing.{allocateOn}
+use Rattle.giving_back.specs.GivingBack.{freeOn, renameOn}
 
 -- the words of a table, and the ranges that were handed out on it and not given back
 pub record WordsState : Type 0 where

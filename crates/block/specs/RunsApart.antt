@@ -23,10 +23,10 @@ use Rattle.words.specs.Laid.{sound-laid, block-back}
 use Rattle.words.specs.Rows.{encode-head}
 use Rattle.words.specs.Spots.{InSlot, in-words, written-spot, used-spot, spot-used}
 use Rattle.words.specs.Written.{decode-encode, decode-table}
-use Rattle.block.specs.Calls.{leaves}
+use Rattle.opening.specs.Calls.{leaves}
 use Rattle.opening.specs.Creation.{newOn}
 use Rattle.sub_allocator.specs.Answers.{Given}
-use Rattle.block.specs.Placing.{given, allocateOn}
+use Rattle.placing.specs.Placing.{given, allocateOn}
 use Rattle.opening.specs.Exactly.{new-accepted}
 use Rattle.opening.specs.NewBlock.{new-table, new-sound}
 use Rattle.block.specs.Runs.{WordsState, stepOn, runOn, beginOn}

@@ -20,10 +20,10 @@ use Rattle.words.specs.Checked.{decode-exactly}
 use Rattle.words.specs.Rows.{encode-length}
 use Rattle.words.specs.Written.{decode-encode, encode-decode, decode-sound}
 use Rattle.opening.specs.Look.{onTable}
-use Rattle.block.specs.Calls.{leaves}
+use Rattle.opening.specs.Calls.{leaves}
 use Rattle.opening.specs.Creation.{newOn}
-use Rattle.block.specs.Placing.{given, allocateOn}
-use Rattle.block.specs.GivingBack.{changes, freeOn, renameOn}
+use Rattle.placing.specs.Placing.{given, allocateOn}
+use Rattle.giving_back.specs.GivingBack.{changes, freeOn, renameOn}
 use Rattle.opening.specs.Looked.{TableWords, table-exactly}
 use Rattle.opening.specs.NewBlock.{new-read}
 use Rattle.block.specs.Runs.{WordsState, afterAllocate, afterFree, afterRename, stepOn, runOn, beginOn}

@@ -13,8 +13,8 @@ use Rattle.words.specs.Checks.{upTo}
 use Rattle.words.specs.Words.{rowAt, rows, encode, read, chunksOf, blockOf, chunkOk, allOk, noneFree, rules, sound, decode}
 use Rattle.opening.specs.Creation.{newOn}
 use Rattle.opening.specs.Questions.{allocatedOn}
-use Rattle.block.specs.Placing.{allocateOn}
-use Rattle.block.specs.GivingBack.{freeOn, renameOn}
+use Rattle.placing.specs.Placing.{allocateOn}
+use Rattle.giving_back.specs.GivingBack.{freeOn, renameOn}
 use Rattle.opening.specs.NewBlock.{new-blind}
 use Rattle.block.specs.Runs.{WordsState, runOn, beginOn, linesOn}
 

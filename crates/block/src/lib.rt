@@ -1,3 +1,1 @@
-// The calls that change a free-list block, on the lent words of its table.
-pub mod giving_back;
-pub mod placing;
+// What is said of the calls that change a free-list block, together and in runs: definitions and theorems, no code.

@@ -1,16 +1,16 @@
 // A block's calls at the boundary: its table as a word slice, the value asked for out, 0 on a refusal.
-use block::giving_back;
-use block::placing;
+use giving_back;
 use opening::creation;
 use opening::questions;
+use placing;
 use sub_allocator::answers::IsEmpty;
 use sub_allocator::answers::Placement;
 use sub_allocator::answers::Total;
 use sub_allocator::request::Request;
 ghost use mathlib.Core.Path.{_≡_};
 ghost use Rattle.opening.specs.Creation.{newOn};
-ghost use Rattle.block.specs.GivingBack.{freeOn, renameOn};
-ghost use Rattle.block.specs.Placing.{allocateOn};
+ghost use Rattle.giving_back.specs.GivingBack.{freeOn, renameOn};
+ghost use Rattle.placing.specs.Placing.{allocateOn};
 ghost use Rattle.opening.specs.Questions.{allocatedOn, isEmptyOn};
 ghost use Rattle.outs.specs.Outs.{wordsOut, request, placedOut};
 ghost use Rattle.outs.specs.Outs.{valueOut, flagOut};

@@ -3,10 +3,10 @@
 mod checksum;
 
 use crate::checksum::checksum;
-use block::giving_back;
-use block::placing;
+use giving_back;
 use opening::creation;
 use opening::questions;
+use placing;
 use stores;
 use sub_allocator::answers::Placement;
 use sub_allocator::answers::Total;
