@@ -1,0 +1,2 @@
+-- Answers as lines of bytes.
+pub mod Printed
