@@ -1,5 +1,4 @@
 -- What the code says that a line asks for, as the format has it. Assumes nothing.
-use Prim.Native.Nat.{ℕ}
 use mathlib.Core.Option.{Option, none, some}
 use Rattle.model.specs.Runs.Call.{allocate, free}
 use Rattle.call_lines.specs.Format.{Asked}
