@@ -5,41 +5,16 @@ use mathlib.Core.List.{List, [], _∷_, _++_, append-assoc}
 use native.Mathlib.Omega.{arith}
 use native.Mathlib.Numerals.{towards-suc}
 use lib.ListN.{length, set, length-append}
-use Rattle.laws.specs.Decimal.{decimal, digit, decimal-small, decimal-large}
+use Rattle.laws.specs.Decimal.{decimal, digit}
 use Rattle.laws.specs.Powers.{fewer}
 use borrow.Author.Tests.{lt-ltb, le-ltb, le-leb, lt-leb}
 use Rattle.laws.specs.Reply.{accepted, refused}
-use Rattle.laws.specs.Splice.{splice, splice-splice, splice-sets, splice-front}
+use Rattle.laws.specs.Splice.{splice, splice-both, splice-sets, splice-front}
 use Rattle.byte_text.specs.declared.Shown.{Shown}
 use Rattle.byte_text.specs.ByteText.{suffix, divided, shown, hundredths, textOf, fmtBytes, fmtBytesInto}
 use Rattle.byte_text.specs.ByteTextLaws.{divided-goes-on, text-length}
 
--- ---- the digits
--- how many there are
-pub len-small : (n : ℕ) → n < 10 → 1 ≡ length (decimal n)
-len-small n h = rw (decimal-small n h)
-
-pub len-large : (n : ℕ) → 10 ≤ n → n < 10 ^ 20 → length (decimal n) ≡ length (decimal (n / 10)) + 1
-len-large n h b = rw (decimal-large n h b) (length-append (decimal (n / 10)) (digit (n % 10) ∷ []))
-
--- ---- one part after another
--- s from at on, and t behind it, in a buffer that holds both
-pub both : (xs ys zs : List ℕ) (at next : ℕ) (s t : List ℕ) → at + length (s ++ t) ≤ length xs →
-    next ≡ at + length s → ys ≡ splice xs at s → zs ≡ splice ys next t → zs ≡ splice xs at (s ++ t)
-both xs ys zs at next s t h n a b =
-    b ∙ ap (λ l. splice l next t) a ∙ ap (λ k. splice (splice xs at s) k t) n
-    ∙ splice-splice xs at s t (omega (arith, length-append s t))
-
--- the digits of the tenth, and the last one behind them
-pub digits : (xs ys zs : List ℕ) (at next end n : ℕ) → 10 ≤ n → n < 10 ^ 20 → at + length (decimal n) ≤ length xs →
-    next ≡ at + length (decimal (n / 10)) → ys ≡ splice xs at (decimal (n / 10)) →
-    end ≡ next + 1 → zs ≡ splice ys next (digit (n % 10) ∷ []) →
-    (end ≡ at + length (decimal n)) × (zs ≡ splice xs at (decimal n))
-digits xs ys zs at next end n l b h e a f g = (
-  omega (arith, len-large n l b),
-  rw (decimal-large n l b) (both xs ys zs at next (decimal (n / 10)) (digit (n % 10) ∷ []) (rw (decimal-large n l b) at h) e a g),
-)
-
+-- ---- the places
 -- four bytes, one place after another
 pub four : (xs : List ℕ) (at a b c d : ℕ) → at + 4 ≤ length xs →
     set (set (set (set xs at a) (at + 1) b) (at + 2) c) (at + 3) d ≡ splice xs at (a ∷ b ∷ c ∷ d ∷ [])
@@ -69,8 +44,8 @@ unfolding textOf
 text xs ys zs ws point name h unit b e a f g k =
     let d : List ℕ = decimal (h / 100) in
     let p : List ℕ = 46 ∷ digit (h / 10 % 10) ∷ digit (h % 10) ∷ 32 ∷ [] in
-    let two : zs ≡ splice xs 0 (d ++ p) = both xs ys zs 0 point d p (omega (arith, length-append d p, text-length h unit)) e a g in
-    both xs zs ws 0 name (d ++ p) (suffix unit)
+    let two : zs ≡ splice xs 0 (d ++ p) = splice-both xs ys zs 0 point d p (omega (arith, length-append d p, text-length h unit)) e a g in
+    splice-both xs zs ws 0 name (d ++ p) (suffix unit)
     (omega (arith, length-append d p, length-append (d ++ p) (suffix unit), text-length h unit))
     (omega (arith, length-append d p)) two k
     ∙ ap (splice xs 0) (append-assoc d p (suffix unit))

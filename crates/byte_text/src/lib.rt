@@ -1,11 +1,12 @@
 // An amount of bytes as text, written into a lent buffer.
+use decimal_text;
 ghost use mathlib.Core.Path.{_≡_};
 ghost use mathlib.Core.List.{_∷_, []};
 ghost use Prim.Native.Nat.{_+_, _^_, _<_, _≤_, _%_, _/_};
 ghost use lib.ListN.{length};
 ghost use Rattle.laws.specs.Nearest.{nearest};
 ghost use Rattle.laws.specs.Reply.{number};
-ghost use Rattle.laws.specs.Decimal.{decimal, digit};
+ghost use Rattle.laws.specs.Decimal.{digit};
 ghost use Rattle.laws.specs.Splice.{splice};
 ghost use Rattle.byte_text.specs.ByteText.{suffix, shown, hundredths, textOf, reply, fmtBytesInto};
 ghost use Rattle.byte_text.specs.ByteTextLaws.{Bounded};
@@ -84,16 +85,6 @@ fn hundredths(s: Shown) -> u64
     round(100 * s.amount, s.over)
 }
 
-// How many digits n has.
-fn decimal_len(n: u64) -> usize
-    ensures { λ r. ⌜ r ≡ length (decimal n) ⌝ }
-{
-    if n < 10 {
-        return 1;
-    }
-    decimal_len(n / 10) + 1
-}
-
 // How many letters the unit's name has.
 fn suffix_len(unit: u64) -> usize
     ensures { λ r. ⌜ r ≡ length (suffix unit) ⌝ }
@@ -105,28 +96,7 @@ fn suffix_len(unit: u64) -> usize
 fn text_len(h: u64, unit: u64) -> usize
     ensures { λ r. ⌜ r ≡ length (textOf h unit) ⌝ }
 {
-    decimal_len(h / 100) + 4 + suffix_len(unit)
-}
-
-// Stores a byte, and answers the next place.
-fn put(buf: &mut [u8], at: usize, byte: u8) -> usize
-    requires { ⌜ at < length (now buf) ⌝ }
-    ensures { λ r. ⌜ (r ≡ at + 1) × (now (buf .exit) ≡ splice (now (buf .entry)) at (byte ∷ [])) ⌝ }
-{
-    buf[at] = byte;
-    at + 1
-}
-
-// Stores the digits of n, and answers the next place.
-fn put_decimal(buf: &mut [u8], at: usize, n: u64) -> usize
-    requires { ⌜ at + length (decimal n) ≤ length (now buf) ⌝ }
-    ensures { λ r. ⌜ (r ≡ at + length (decimal n)) × (now (buf .exit) ≡ splice (now (buf .entry)) at (decimal n)) ⌝ }
-{
-    if n < 10 {
-        return put(buf, at, (48 + n) as u8);
-    }
-    let next = put_decimal(buf, at, n / 10);
-    put(buf, next, (48 + n % 10) as u8)
+    decimal_text::decimal_len(h / 100) + 4 + suffix_len(unit)
 }
 
 // Stores the two places behind the point, between "." and " ".
@@ -164,11 +134,11 @@ fn put_suffix(buf: &mut [u8], at: usize, unit: u64)
     ensures { λ r. ⌜ now (buf .exit) ≡ splice (now (buf .entry)) at (suffix unit) ⌝ }
 {
     if unit == 0 {
-        put(buf, at, b'B');
+        decimal_text::put(buf, at, b'B');
         return;
     }
-    let next = put(buf, at, letter(unit));
-    put(buf, next, b'B');
+    let next = decimal_text::put(buf, at, letter(unit));
+    decimal_text::put(buf, next, b'B');
 }
 
 // Stores the text of h hundredths of a unit at the front.
@@ -176,7 +146,7 @@ fn put_text(buf: &mut [u8], h: u64, unit: u64)
     requires { ⌜ (length (textOf h unit) ≤ length (now buf)) × (unit ≤ 4) ⌝ }
     ensures { λ r. ⌜ now (buf .exit) ≡ splice (now (buf .entry)) 0 (textOf h unit) ⌝ }
 {
-    let point = put_decimal(buf, 0, h / 100);
+    let point = decimal_text::put_decimal(buf, 0, h / 100);
     let name = put_places(buf, point, h);
     put_suffix(buf, name, unit);
 }

@@ -36,6 +36,13 @@ module _ {A : Type 0} where
       ∙ drop-drop (length t) (at + length s) xs ∙ simp (length-append, add-assoc) in
       rw (join, front, rest) (simp append-assoc)
 
+  -- s from at on, and then t behind it, in a list that holds both.
+  pub splice-both : (xs ys zs : List A) (at next : ℕ) (s t : List A) → at + length (s ++ t) ≤ length xs →
+      next ≡ at + length s → ys ≡ splice xs at s → zs ≡ splice ys next t → zs ≡ splice xs at (s ++ t)
+  splice-both xs ys zs at next s t h n a b =
+      b ∙ ap (λ l. splice l next t) a ∙ ap (λ k. splice (splice xs at s) k t) n
+      ∙ splice-splice xs at s t (omega (arith, length-append s t))
+
   -- At the front the text comes first, and then what it does not cover.
   pub splice-front : (xs ys : List A) → splice xs 0 ys ≡ ys ++ drop (length ys) xs
   unfolding splice

@@ -4,7 +4,8 @@ use mathlib.Core.List.{[], _∷_}
 use native.Mathlib.Omega.{arith}
 use lib.ListN.{length}
 use borrow.Author.Needs.{needs}
-use Rattle.byte_text.proofs.Parts.{one-letter, both}
+use Rattle.laws.specs.Splice.{splice-both}
+use Rattle.byte_text.proofs.Parts.{one-letter}
 use Rattle.byte_text.proofs.put_suffix.Statement.{statement}
 use Rattle.byte_text.proofs.put_suffix.Tie as tie
 
@@ -32,7 +33,7 @@ same-length-2 c = search needs
 returns-2 : tie.Need-returns-2
 returns-2 c =
     rw (c .before .before .before .before .before .before .before .letter .ensures)
-    (both _ _ _ _ _ (c .before .before .before .before .before .before .before .letter .result ∷ []) (66 ∷ []) (omega (arith, ap length (c .before .before .before .before .before .before .before .letter .ensures))) (c .before .before .before .before .before .before .put2 .ensures .0) (c .before .before .before .before .before .before .put2 .ensures .1) (c .before .before .put3 .ensures .1))
+    (splice-both _ _ _ _ _ (c .before .before .before .before .before .before .before .letter .result ∷ []) (66 ∷ []) (omega (arith, ap length (c .before .before .before .before .before .before .before .letter .ensures))) (c .before .before .before .before .before .before .put2 .ensures .0) (c .before .before .before .before .before .before .put2 .ensures .1) (c .before .before .put3 .ensures .1))
 
 pub put-suffix-spec : {M : Type 1} → statement M
 put-suffix-spec =

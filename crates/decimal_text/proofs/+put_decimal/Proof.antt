@@ -5,13 +5,13 @@ use borrow.Author.Needs.{needs}
 use borrow.Fn.Kinds.{In}
 use borrow.Fn.PlainCycle.{Measures, is, falls, and}
 use Rattle.laws.specs.Decimal.{decimal-small}
-use Rattle.byte_text.proofs.Parts.{len-small, len-large, digits}
-use Rattle.byte_text.proofs.put_decimal.Reads as put-decimal
-use Rattle.byte_text.proofs.put_decimal.Kinds as put-decimal-kinds
-use Rattle.byte_text.proofs.+put_decimal.Lts-put_decimal as put-decimal-lts
-use Rattle.byte_text.proofs.put.Reads as put-reads
-use Rattle.byte_text.proofs.+put_decimal.{statement}
-use Rattle.byte_text.proofs.+put_decimal.Tie.{close}
+use Rattle.decimal_text.proofs.Digits.{len-small, len-large, digits}
+use Rattle.decimal_text.proofs.put_decimal.Reads as put-decimal
+use Rattle.decimal_text.proofs.put_decimal.Kinds as put-decimal-kinds
+use Rattle.decimal_text.proofs.+put_decimal.Lts-put_decimal as put-decimal-lts
+use Rattle.decimal_text.proofs.put.Reads as put-reads
+use Rattle.decimal_text.proofs.+put_decimal.{statement}
+use Rattle.decimal_text.proofs.+put_decimal.Tie.{close}
 
 abbrev μ-put-decimal : Measures 1 put-decimal-kinds.ps ℕ
 μ-put-decimal κs a = a .1 .1 .0

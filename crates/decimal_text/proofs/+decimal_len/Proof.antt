@@ -4,12 +4,12 @@ use native.Mathlib.Omega.{arith}
 use borrow.Fn.Kinds.{In}
 use borrow.Fn.PlainCycle.{Measures, is, falls, and}
 use Rattle.laws.specs.Decimal.{decimal-short}
-use Rattle.byte_text.proofs.Parts.{len-small, len-large}
-use Rattle.byte_text.proofs.decimal_len.Reads as decimal-len
-use Rattle.byte_text.proofs.decimal_len.Kinds as decimal-len-kinds
-use Rattle.byte_text.proofs.+decimal_len.Lts-decimal_len as decimal-len-lts
-use Rattle.byte_text.proofs.+decimal_len.{statement}
-use Rattle.byte_text.proofs.+decimal_len.Tie.{close}
+use Rattle.decimal_text.proofs.Digits.{len-small, len-large}
+use Rattle.decimal_text.proofs.decimal_len.Reads as decimal-len
+use Rattle.decimal_text.proofs.decimal_len.Kinds as decimal-len-kinds
+use Rattle.decimal_text.proofs.+decimal_len.Lts-decimal_len as decimal-len-lts
+use Rattle.decimal_text.proofs.+decimal_len.{statement}
+use Rattle.decimal_text.proofs.+decimal_len.Tie.{close}
 
 abbrev μ-decimal-len : Measures 0 decimal-len-kinds.ps ℕ
 μ-decimal-len κs a = a .0

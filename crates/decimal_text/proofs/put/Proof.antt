@@ -2,8 +2,8 @@
 use mathlib.Core.Path.{refl, sym}
 use borrow.Author.Needs.{needs}
 use Rattle.laws.specs.Splice.{splice-one}
-use Rattle.byte_text.proofs.put.Statement.{statement}
-use Rattle.byte_text.proofs.put.Tie as tie
+use Rattle.decimal_text.proofs.put.Statement.{statement}
+use Rattle.decimal_text.proofs.put.Tie as tie
 
 slice-write-buf : tie.Need-slice-write-buf
 slice-write-buf c = search needs
