@@ -1,23 +1,15 @@
 -- The paper's lines, and lines at the format's edges, by computing. Assumes nothing.
 use Prim.Native.Nat.{ℕ, _-_, _^_}
-use Prim.Native.Char.{code}
-use Prim.Native.String as string
 use Prim.Native.String.{String}
-use mathlib.Core.Bool.{true, false}
 use mathlib.Core.List.{List, [], _∷_}
 use mathlib.Core.Option.{Option, none, some}
 use mathlib.Core.Path.{_≡_, refl}
+use Rattle.laws.specs.Letters.{bytes}
 use Rattle.laws.specs.Decimal.{valueFrom}
 use Rattle.laws.specs.Every.{every}
 use Rattle.model.specs.Runs.Call.{allocate, free}
 use Rattle.call_lines.specs.Format.{Asked, cut, ended, lines, fields, allDigits, numberOf, numbersOf, askedBy, askedIn, readLine}
 use Rattle.call_lines.specs.Format.Asked.{new, call}
-use Rattle.call_lines.specs.Reading.{fresh, withDigit, withSpace, isLetter, withLetter, fed, fedAll, isAsking, asked, isBegun}
-
--- the letters of a text, as bytes
-bytes : String → List ℕ
-bytes string.[] = []
-bytes (string._∷_ c s) = code c ∷ bytes s
 
 -- what a line asks for, open to computing
 line : String → Option Asked
