@@ -16,3 +16,7 @@ printed (some l) =
 abbrev pub answerOf : Answer → Option Line
 answerOf (answer.Line number offset id allocated) = some (line number offset id allocated)
 answerOf answer.Unread = none
+
+-- the most bytes that a line of numbers below 2^64 has: four times 20 digits and the byte behind them
+abbrev pub longest : ℕ
+longest = 84
