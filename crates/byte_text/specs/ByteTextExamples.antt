@@ -1,20 +1,13 @@
 -- The paper's examples, by computing. Assumes nothing.
 use Prim.Native.Nat.{ℕ, _-_, _^_}
-use Prim.Native.Char.{code}
-use Prim.Native.String as string
-use Prim.Native.String.{String}
 use mathlib.Core.Path.{_≡_, refl}
-use mathlib.Core.List.{List, [], _∷_, _++_}
+use mathlib.Core.List.{List, [], _++_}
 use lib.ListN.{replicate}
 use Rattle.laws.specs.Reply.{Reply, accepted, refused}
 use Rattle.laws.specs.Nearest.{nearest}
+use Rattle.laws.specs.Letters.{bytes}
 use Rattle.laws.specs.Decimal.{decimal, decimalIn}
 use Rattle.byte_text.specs.ByteText.{suffix, divided, shown, hundredths, textOf, fmtBytes, fmtBytesInto}
-
--- the letters of a text, as bytes
-bytes : String → List ℕ
-bytes string.[] = []
-bytes (string._∷_ c s) = code c ∷ bytes s
 
 -- the call, open to computing
 call : ℕ → List ℕ → Reply ℕ × List ℕ

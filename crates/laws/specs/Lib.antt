@@ -12,4 +12,5 @@ pub mod Rounding
 pub mod Pages
 pub mod Nearest
 pub mod Decimal
+pub mod Letters
 pub mod Splice
