@@ -1,0 +1,7 @@
+-- The text program: what a text of calls prints, and how it is fed in.
+
+-- the definitions
+pub mod Text
+pub mod Feeding
+-- what is fed in byte by byte prints what the lines print
+pub mod Told

@@ -1,0 +1,43 @@
+-- `blockbench::move_some` is safe and ends. Assumes nothing.
+use mathlib.Core.Path.{sym}
+use lib.Seq.{length-take-le}
+use borrow.Author.Needs.{needs}
+use Rattle.blockbench.proofs.move_some.Statement.{statement}
+use Rattle.blockbench.proofs.move_some.Tie as tie
+
+large-buffer-requires : tie.Need-large-buffer-requires
+large-buffer-requires c κs = search needs
+
+slice-aggregate-feed : tie.Need-slice-aggregate-feed
+slice-aggregate-feed c = search needs
+
+feed-requires : tie.Need-feed-requires
+feed-requires c κs = search needs
+
+array-share-prefix-out : tie.Need-array-share-prefix-out
+array-share-prefix-out c = search needs
+
+slice-aggregate-write-all : tie.Need-slice-aggregate-write-all
+slice-aggregate-write-all c = sym (length-take-le _ _ (search needs))
+
+write-all-requires : tie.Need-write-all-requires
+write-all-requires c κs = search needs
+
+same-length : tie.Need-same-length
+same-length c = search needs
+
+returns : tie.Need-returns
+returns c = search needs
+
+pub move-some-spec : {M : Type 1} → statement M
+move-some-spec =
+    tie.close
+    (tie.spec
+    large-buffer-requires
+    slice-aggregate-feed
+    feed-requires
+    array-share-prefix-out
+    slice-aggregate-write-all
+    write-all-requires
+    same-length
+    returns)
