@@ -23,9 +23,9 @@ pub struct Habits {
 impl Habits {
     /// Habits for a block of this size and this many slots.
     pub fn new(size: u64, slots: u64, random: &mut Random) -> Self {
-        // about so many chunks fill the block: more than there are slots, or fewer
+        // about so many chunks fill the block: more than there are slots, now and then fewer
         let any = 1 + random.below(2 * slots);
-        let chunks = random.pick(&[2 * slots, slots, any]);
+        let chunks = random.pick(&[4 * slots, 2 * slots, any]);
         let reach = 1 + (size / chunks).saturating_mul(2);
         let near = u64::from(64 - reach.leading_zeros());
         let bits = random.pick(&[1, 1 + near / 2, near]);

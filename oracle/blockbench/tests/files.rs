@@ -3,6 +3,7 @@
 use std::collections::BTreeMap;
 
 use lunkaseyo_oracle_blockbench::bench::{Answer, Bench};
+use lunkaseyo_oracle_blockbench::block::MOST_SLOTS;
 use lunkaseyo_oracle_blockbench::files::{write_calls, write_damaged};
 
 const LINES: u64 = 100_000;
@@ -96,23 +97,22 @@ fn a_seed_decides_the_lines() {
 }
 
 #[test]
-fn files_have_long_runs_and_large_tables() {
-    let (mut longest, mut run, mut most_live, mut live) = (0, 0, 0, 0);
+fn files_have_long_runs_and_fill_the_largest_tables() {
+    let (mut longest, mut run, mut refused) = (0, 0, 0);
     let mut bench = Bench::default();
-    for line in (1..=10)
-        .flat_map(calls)
-        .collect::<Vec<u8>>()
-        .split(|&byte| byte == b'\n')
-    {
-        match (line.first(), bench.answer(line)) {
-            (Some(b'n'), Answer::Numbers { .. }) => (run, live) = (0, 0),
-            (Some(b'a'), Answer::Numbers { number: 0, .. }) => live += 1,
-            (Some(b'f'), Answer::Numbers { number: 0, .. }) => live -= 1,
-            _ => {}
+    let lines: Vec<u8> = (1..=10).flat_map(calls).collect();
+    for line in lines.split(|&byte| byte == b'\n') {
+        let answer = bench.answer(line);
+        let is_new = line.first() == Some(&b'n') && answer != Answer::Unreadable;
+        run = if is_new { 0 } else { run + 1 };
+        longest = longest.max(run);
+        let has_most_slots = bench
+            .block()
+            .map_or(false, |block| block.slots() == MOST_SLOTS);
+        if has_most_slots && matches!(answer, Answer::Numbers { number: 9, .. }) {
+            refused += 1;
         }
-        run += 1;
-        (longest, most_live) = (longest.max(run), most_live.max(live));
     }
     assert!(longest > 10_000, "the longest run has {longest} calls");
-    assert!(most_live > 300, "at most {most_live} chunks are live");
+    assert!(refused > 100, "512 slots were too few {refused} times");
 }
