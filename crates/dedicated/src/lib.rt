@@ -1,3 +1,4 @@
-// The dedicated block: one allocation that takes all of it, in a small record.
-pub mod by_value;
+// The dedicated block: one allocation that takes all of it, in a small record, made and asked.
+pub mod creation;
+pub mod questions;
 pub mod record;

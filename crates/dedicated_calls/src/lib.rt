@@ -1,9 +1,11 @@
 // A dedicated block's calls at the boundary: its record as three words, the values asked for out, 0 on a refusal.
-use dedicated::by_value;
+use dedicated::creation;
+use dedicated::questions;
 use dedicated::record::Changing;
 use dedicated::record::DedicatedBlock;
 use dedicated::record::New;
 use dedicated::record::Report;
+use dedicated_by_value;
 use sub_allocator::answers::IsEmpty;
 use sub_allocator::answers::Placement;
 use sub_allocator::answers::Total;
@@ -44,7 +46,7 @@ fn give_record(done: Changing, words: &mut [u64; 3]) -> u64
 pub extern "C" fn lunkaseyo_dedicated_new(record: &mut [u64; 3], size: u64) -> u64
     ensures { λ r. ⌜ (r, now («record» .exit)) ≡ newOut (newBlock size) (now («record» .entry)) ⌝ }
 {
-    let answer = by_value::new(size);
+    let answer = creation::new(size);
     let New::Block(block) = answer else {
         return answer.number();
     };
@@ -72,7 +74,7 @@ pub extern "C" fn lunkaseyo_dedicated_allocate(
         granularity,
         label,
     };
-    let done = by_value::allocate(record_of(*record), request);
+    let done = dedicated_by_value::allocate(record_of(*record), request);
     *record = words_of(done.block);
     let answer = done.answer;
     let Placement::Placed {
@@ -93,7 +95,7 @@ pub extern "C" fn lunkaseyo_dedicated_allocate(
 pub extern "C" fn lunkaseyo_dedicated_free(record: &mut [u64; 3], id: u64) -> u64
     ensures { λ r. ⌜ (r, now («record» .exit)) ≡ recordOut (freeIn (recordOf (now («record» .entry))) id) ⌝ }
 {
-    let done = by_value::free(record_of(*record), id);
+    let done = dedicated_by_value::free(record_of(*record), id);
     give_record(done, record)
 }
 
@@ -105,7 +107,7 @@ pub extern "C" fn lunkaseyo_dedicated_rename_allocation(
 ) -> u64
     ensures { λ r. ⌜ (r, now («record» .exit)) ≡ recordOut (renameIn (recordOf (now («record» .entry))) id label) ⌝ }
 {
-    let done = by_value::rename_allocation(record_of(*record), id, label);
+    let done = dedicated_by_value::rename_allocation(record_of(*record), id, label);
     give_record(done, record)
 }
 
@@ -113,7 +115,7 @@ pub extern "C" fn lunkaseyo_dedicated_rename_allocation(
 pub extern "C" fn lunkaseyo_dedicated_allocated(record: &[u64; 3], allocated: &mut u64) -> u64
     ensures { λ r. ⌜ (r, now (allocated .exit)) ≡ valueOut (allocatedIn (recordOf (now («record» .entry)))) ⌝ }
 {
-    let answer = by_value::allocated(record_of(*record));
+    let answer = questions::allocated(record_of(*record));
     let Total::Bytes(bytes) = answer else {
         *allocated = 0;
         return answer.number();
@@ -126,7 +128,7 @@ pub extern "C" fn lunkaseyo_dedicated_allocated(record: &[u64; 3], allocated: &m
 pub extern "C" fn lunkaseyo_dedicated_is_empty(record: &[u64; 3], is_empty: &mut u64) -> u64
     ensures { λ r. ⌜ (r, now («is_empty» .exit)) ≡ flagOut (isEmptyIn (recordOf (now («record» .entry)))) ⌝ }
 {
-    let answer = by_value::is_empty(record_of(*record));
+    let answer = questions::is_empty(record_of(*record));
     let IsEmpty::Answer(empty) = answer else {
         *is_empty = 0;
         return answer.number();
@@ -142,7 +144,7 @@ pub extern "C" fn lunkaseyo_dedicated_report_allocations(
 ) -> u64
     ensures { λ r. ⌜ (r, now (report .exit)) ≡ reportOut (reportOf (recordOf (now («record» .entry)))) ⌝ }
 {
-    let answer = by_value::report_allocations(record_of(*record));
+    let answer = questions::report_allocations(record_of(*record));
     let Report::Entry {
         first_byte,
         size,

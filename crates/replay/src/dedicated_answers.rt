@@ -1,8 +1,10 @@
 // Whether the calls of a dedicated block answer as a recorded line says. Its record is in the first three words of the store.
-use dedicated::by_value;
+use dedicated::creation;
+use dedicated::questions;
 use dedicated::record::DedicatedBlock;
 use dedicated::record::New;
 use dedicated::record::Report;
+use dedicated_by_value;
 use recorded_blocks::Outcome;
 use recorded_blocks::placement_agrees;
 use sub_allocator::answers::Total;
@@ -35,7 +37,7 @@ fn keep(store: &mut [u64], block: DedicatedBlock) {
 
 // Whether these bytes are allocated after a call, under this label.
 fn left_agrees(block: DedicatedBlock, allocated: u64, label: u64) -> bool {
-    let total = by_value::allocated(block);
+    let total = questions::allocated(block);
     let Total::Bytes(bytes) = total else {
         return false;
     };
@@ -44,7 +46,7 @@ fn left_agrees(block: DedicatedBlock, allocated: u64, label: u64) -> bool {
 
 // A refusal leaves the record that is there.
 fn created(store: &mut [u64], size: u64, number: u64, lent: usize) -> Outcome {
-    let answer = by_value::new(size);
+    let answer = creation::new(size);
     let New::Block(block) = answer else {
         return Outcome {
             agrees: answer.number() == number,
@@ -66,7 +68,7 @@ fn allocate_agrees(store: &mut [u64], fields: [u64; 11]) -> bool {
         granularity: fields[4],
         label: fields[5],
     };
-    let done = by_value::allocate(record_of(store), request);
+    let done = dedicated_by_value::allocate(record_of(store), request);
     keep(store, done.block);
     let answer = done.answer;
     if !placement_agrees(answer, fields[6], fields[7], fields[8]) {
@@ -76,7 +78,7 @@ fn allocate_agrees(store: &mut [u64], fields: [u64; 11]) -> bool {
 }
 
 fn free_agrees(store: &mut [u64], fields: [u64; 11]) -> bool {
-    let done = by_value::free(record_of(store), fields[1]);
+    let done = dedicated_by_value::free(record_of(store), fields[1]);
     keep(store, done.block);
     let answer = done.answer;
     if answer.number() != fields[2] {
@@ -86,7 +88,7 @@ fn free_agrees(store: &mut [u64], fields: [u64; 11]) -> bool {
 }
 
 fn rename_agrees(store: &mut [u64], fields: [u64; 11]) -> bool {
-    let done = by_value::rename_allocation(record_of(store), fields[1], fields[2]);
+    let done = dedicated_by_value::rename_allocation(record_of(store), fields[1], fields[2]);
     keep(store, done.block);
     let answer = done.answer;
     if answer.number() != fields[3] {
@@ -96,7 +98,7 @@ fn rename_agrees(store: &mut [u64], fields: [u64; 11]) -> bool {
 }
 
 fn report_agrees(store: &[u64], fields: [u64; 11]) -> bool {
-    let report = by_value::report_allocations(record_of(store));
+    let report = questions::report_allocations(record_of(store));
     match report {
         Report::Entry {
             first_byte,

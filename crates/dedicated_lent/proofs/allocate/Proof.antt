@@ -1,5 +1,5 @@
 -- `dedicated_lent::allocate` keeps its contract, over its MIR: the locals are made and freed here, the statements between are `HandedOn.antt`'s, and the exit is shown.
--- Of `by_value::allocate` only the contract is used, whose equation is already the one wanted.
+-- Of `dedicated_by_value::allocate` only the contract is used, whose equation is already the one wanted.
 -- Assumes nothing.
 use mathlib.Core.Path.{_≡_, refl}
 use Prim.Native.Nat.{ℕ}
@@ -40,10 +40,10 @@ use Rattle.dedicated.specs.declared.record.DedicatedBlock.{DedicatedBlock}
 use Rattle.dedicated.specs.declared.record.Placing.{Placing}
 use Rattle.dedicated_lent.proofs.HandedOn.{placing, machine, told, asks, Left, leaves, hands-on}
 use Rattle.dedicated.proofs.record.DedicatedBlock as T
-use Rattle.dedicated.proofs.by_value.allocate as by-value
-use Rattle.dedicated.proofs.by_value.allocate.Symbol as by-value-def
-use Rattle.dedicated.proofs.by_value.allocate.Symbol.{name as #by-value}
-use Rattle.dedicated.proofs.by_value.allocate.Met as by-value-thm
+use Rattle.dedicated_by_value.proofs.allocate as by-value
+use Rattle.dedicated_by_value.proofs.allocate.Symbol as by-value-def
+use Rattle.dedicated_by_value.proofs.allocate.Symbol.{name as #by-value}
+use Rattle.dedicated_by_value.proofs.allocate.Met as by-value-thm
 use Rattle.dedicated_lent.proofs.allocate.Key.{name as #allocate}
 use Rattle.dedicated_lent.proofs.allocate as allocate
 use Rattle.dedicated_lent.proofs.allocate.Statement as stated
@@ -60,7 +60,7 @@ asked = LL.val Q.the-type Q′.the-laws
 abbrev stayed : Stays (allocate.ended .signature .params) (allocate.ended .kept)
 stayed = (stay-ref (0 ∷ []) tt (plain (λ _. T.the-row)), (stay-none (λ _. Q.the-row) yes, tt))
 
--- what `by_value::allocate` is known to do
+-- what `dedicated_by_value::allocate` is known to do
 abbrev ByValue : {M : Type 1} (𝓤 : URA M) (H : Heap 𝓤) (A : Atoms 𝓤) (at-mem : Memory → SProp 𝓤) (run : Routine → Fun 𝓤) → Contract 𝓤
 ByValue 𝓤 H A at-mem run = tripleOf 𝓤 H A by-value.signature (by-value.spec 𝓤 H A at-mem run)
 
@@ -123,4 +123,4 @@ allocate-spec 𝓤 H 𝓜 𝓖 𝓡 =
     entered 𝓤 H (tripleOf 𝓤 H (𝓖 .A) allocate.signature (allocate.spec 𝓤 H (𝓖 .A) (𝓜 .mem) (𝓡 .run)))
     (tables 𝓤 H 𝓜 𝓡 code.env .C) (tables 𝓤 H 𝓜 𝓡 code.env .Λ) #allocate code.function (code.unfolded 𝓤 H 𝓜 𝓡)
     (allocate-meets 𝓤 H (𝓖 .A) (givenOf 𝓤 H 𝓜 𝓖) (𝓜 .mem) (𝓡 .run) (tablesOf 𝓤 H 𝓜 (tables 𝓤 H 𝓜 𝓡 code.env))
-    (cited 𝓤 H (ByValue 𝓤 H (𝓖 .A) (𝓜 .mem) (𝓡 .run)) 𝓜 𝓡 code.env #by-value by-value-def.routine code.calls-dedicated·by-value·allocate (by-value-thm.met 𝓤 H 𝓜 𝓖 𝓡)))
+    (cited 𝓤 H (ByValue 𝓤 H (𝓖 .A) (𝓜 .mem) (𝓡 .run)) 𝓜 𝓡 code.env #by-value by-value-def.routine code.calls-dedicated-by-value·allocate (by-value-thm.met 𝓤 H 𝓜 𝓖 𝓡)))

@@ -1,5 +1,5 @@
 -- `dedicated_lent::rename_allocation` keeps its contract, over its MIR: the locals are made and freed here, the statements between are `HandedOn.antt`'s, and the exit is shown.
--- Of `by_value::rename_allocation` only the contract is used, whose equation is already the one wanted.
+-- Of `dedicated_by_value::rename_allocation` only the contract is used, whose equation is already the one wanted.
 -- Assumes nothing.
 use mathlib.Core.Path.{_≡_, refl}
 use Prim.Native.Nat.{ℕ, _<_, _^_}
@@ -37,10 +37,10 @@ use Rattle.dedicated.specs.declared.record.DedicatedBlock.{DedicatedBlock}
 use Rattle.dedicated.specs.declared.record.Changing.{Changing}
 use Rattle.dedicated_lent.proofs.HandedOn.{changing, machine, told, asks, Left, leaves, hands-on}
 use Rattle.dedicated.proofs.record.DedicatedBlock as T
-use Rattle.dedicated.proofs.by_value.rename_allocation as by-value
-use Rattle.dedicated.proofs.by_value.rename_allocation.Symbol as by-value-def
-use Rattle.dedicated.proofs.by_value.rename_allocation.Symbol.{name as #by-value}
-use Rattle.dedicated.proofs.by_value.rename_allocation.Met as by-value-thm
+use Rattle.dedicated_by_value.proofs.rename_allocation as by-value
+use Rattle.dedicated_by_value.proofs.rename_allocation.Symbol as by-value-def
+use Rattle.dedicated_by_value.proofs.rename_allocation.Symbol.{name as #by-value}
+use Rattle.dedicated_by_value.proofs.rename_allocation.Met as by-value-thm
 use Rattle.dedicated_lent.proofs.rename_allocation.Key.{name as #rename}
 use Rattle.dedicated_lent.proofs.rename_allocation as rename
 use Rattle.dedicated_lent.proofs.rename_allocation.Statement as stated
@@ -53,7 +53,7 @@ Ps = u64 ∷ u64 ∷ []
 abbrev stayed : Stays (rename.ended .signature .params) (rename.ended .kept)
 stayed = (stay-ref (0 ∷ []) tt (plain (λ _. T.the-row)), (stay-none (λ _. u64) yes, (stay-none (λ _. u64) yes, tt)))
 
--- what `by_value::rename_allocation` is known to do
+-- what `dedicated_by_value::rename_allocation` is known to do
 abbrev ByValue : {M : Type 1} (𝓤 : URA M) (H : Heap 𝓤) (A : Atoms 𝓤) (at-mem : Memory → SProp 𝓤) (run : Routine → Fun 𝓤) → Contract 𝓤
 ByValue 𝓤 H A at-mem run = tripleOf 𝓤 H A by-value.signature (by-value.spec 𝓤 H A at-mem run)
 
@@ -117,4 +117,4 @@ rename-allocation-spec 𝓤 H 𝓜 𝓖 𝓡 =
     entered 𝓤 H (tripleOf 𝓤 H (𝓖 .A) rename.signature (rename.spec 𝓤 H (𝓖 .A) (𝓜 .mem) (𝓡 .run)))
     (tables 𝓤 H 𝓜 𝓡 code.env .C) (tables 𝓤 H 𝓜 𝓡 code.env .Λ) #rename code.function (code.unfolded 𝓤 H 𝓜 𝓡)
     (rename-meets 𝓤 H (𝓖 .A) (givenOf 𝓤 H 𝓜 𝓖) (𝓜 .mem) (𝓡 .run) (tablesOf 𝓤 H 𝓜 (tables 𝓤 H 𝓜 𝓡 code.env))
-    (cited 𝓤 H (ByValue 𝓤 H (𝓖 .A) (𝓜 .mem) (𝓡 .run)) 𝓜 𝓡 code.env #by-value by-value-def.routine code.calls-dedicated·by-value·rename-allocation (by-value-thm.met 𝓤 H 𝓜 𝓖 𝓡)))
+    (cited 𝓤 H (ByValue 𝓤 H (𝓖 .A) (𝓜 .mem) (𝓡 .run)) 𝓜 𝓡 code.env #by-value by-value-def.routine code.calls-dedicated-by-value·rename-allocation (by-value-thm.met 𝓤 H 𝓜 𝓖 𝓡)))
