@@ -10,7 +10,7 @@ use borrow.Author.Tests.{lt-ltb, le-ltb, le-leb, lt-leb, eq-eqb, ne-eqb}
 use Rattle.laws.specs.Every.{cases, fail, two, more, rest, second}
 use Rattle.model.specs.Runs.Call.{allocate, free}
 use Rattle.call_lines.specs.Format.Asked.{new, call}
-use Rattle.call_lines.specs.Reading.{unreadable, lettered, numbered, spaced, digitTests, withDigit, spaceTests, withSpace, isLetter, letterTests, withLetter, fed, askingTests, isAsking, asked}
+use Rattle.call_lines.specs.Reading.{unreadable, lettered, numbered, spaced, digitTests, withDigit, spaceTests, withSpace, isLetter, letterTests, withLetter, fed, askingTests, isAsking, requestAt, asked}
 use Rattle.call_lines.specs.ReadSteps.{is-digit, below-digits, above-digits, letter-high, any-space}
 use Rattle.call_lines.specs.declared.line.Line.{Line}
 
@@ -98,8 +98,7 @@ module _ (l : Line) where
   unfolding asked
   asks-new e = rw e
 
-  pub asks-place : isAsking l 110 2 ≡ false → isAsking l 97 5 ≡ true →
-      some (call (allocate (record { size = l .a; alignment = l .b; kind = l .c; granularity = l .d; label = l .value }))) ≡ asked l
+  pub asks-place : isAsking l 110 2 ≡ false → isAsking l 97 5 ≡ true → some (call (allocate (requestAt l))) ≡ asked l
   unfolding asked
   asks-place p e = rw (p, e)
 
