@@ -3,11 +3,14 @@ use Prim.Native.Nat.{ℕ, _+_, _-_, _*_, _^_, _≤_, _<_}
 use mathlib.Core.Bool.{true, false}
 use mathlib.Core.Path.{_≡_, sym, _∙_}
 use mathlib.Core.Logic.{⊎-elim}
+use mathlib.Core.Option.{none, some}
 use native.Mathlib.Omega.{arith}
 use lib.Dec.{eqb}
 use borrow.Author.Tests.{lt-ltb, le-ltb, le-leb, lt-leb, eq-eqb, ne-eqb}
 use Rattle.laws.specs.Every.{cases, fail, two, more, rest, second}
-use Rattle.call_lines.specs.Reading.{unreadable, lettered, numbered, spaced, digitTests, withDigit, spaceTests, withSpace, isLetter, letterTests, withLetter, fed, askingTests, isAsking}
+use Rattle.model.specs.Runs.Call.{allocate, free}
+use Rattle.call_lines.specs.Format.Asked.{new, call}
+use Rattle.call_lines.specs.Reading.{unreadable, lettered, numbered, spaced, digitTests, withDigit, spaceTests, withSpace, isLetter, letterTests, withLetter, fed, askingTests, isAsking, requestAt, asked}
 use Rattle.call_lines.specs.ReadSteps.{is-digit, below-digits, above-digits, letter-high, any-space}
 use Rattle.call_lines.specs.declared.line.Line.{Line}
 
@@ -89,3 +92,20 @@ module _ (l : Line) where
     pub by-count : l .stage ≡ 3 → l .letter ≡ letter → eqb (l .count) count ≡ isAsking l letter count
     unfolding isAsking
     by-count s e = sym (rest _ _ (eq-eqb (l .stage) 3 s) ∙ second _ _ (eq-eqb (l .letter) letter e))
+
+  -- ---- what it asks for
+  pub asks-new : isAsking l 110 2 ≡ true → some (new (l .d) (l .value)) ≡ asked l
+  unfolding asked
+  asks-new e = rw e
+
+  pub asks-place : isAsking l 110 2 ≡ false → isAsking l 97 5 ≡ true → some (call (allocate (requestAt l))) ≡ asked l
+  unfolding asked
+  asks-place p e = rw (p, e)
+
+  pub asks-free : isAsking l 110 2 ≡ false → isAsking l 97 5 ≡ false → isAsking l 102 1 ≡ true → some (call (free (l .value))) ≡ asked l
+  unfolding asked
+  asks-free p q e = rw (p, q, e)
+
+  pub asks-nothing : isAsking l 110 2 ≡ false → isAsking l 97 5 ≡ false → isAsking l 102 1 ≡ false → none ≡ asked l
+  unfolding asked
+  asks-nothing p q e = rw (p, q, e)

@@ -1,7 +1,7 @@
 -- What is true of reading a line one byte at a time. Assumes nothing.
 use Prim.Native.Nat.{ℕ, _+_, _-_, _*_}
 use mathlib.Core.Bool.{Bool, true, false, cond}
-use mathlib.Core.List.{List, [], _∷_}
+use mathlib.Core.List.{List, [], _∷_, _++_}
 use mathlib.Core.Logic.{⊎-elim}
 use mathlib.Core.Path.{_≡_, refl, sym, ap, _∙_}
 use lib.Dec.{eqb}
@@ -22,6 +22,12 @@ line-read (b ∷ s) =
     (λ e. next fresh (lettered b) b s (first-letter b e) (after-letter s b ∙ sym (ap askedIn (cut-other b s (letter-no-space b e)))))
     (λ e. dead fresh b s (first-other b e) (unread b s e))
     (cases (isLetter b))
+
+-- Bytes that come in two parts are fed one part after the other.
+pub fed-parts : (l : Line) (s t : List ℕ) → fedAll l (s ++ t) ≡ fedAll (fedAll l s) t
+unfolding fedAll
+fed-parts l [] t = refl
+fed-parts l (b ∷ s) t = fed-parts (fed l b) s t
 
 -- ---- whether there is a byte
 

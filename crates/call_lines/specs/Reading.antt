@@ -5,6 +5,7 @@ use mathlib.Core.List.{List, [], _∷_}
 use mathlib.Core.Option.{Option, none, some}
 use lib.Dec.{eqb, ltb, leb}
 use Rattle.laws.specs.Every.{every}
+use Rattle.model.specs.Placing.{Request}
 use Rattle.model.specs.Runs.Call.{allocate, free}
 use Rattle.call_lines.specs.Format.{Asked, isDigit}
 use Rattle.call_lines.specs.Format.Asked.{new, call}
@@ -96,12 +97,21 @@ askingTests l letter count = eqb (l .stage) 3 ∷ eqb (l .letter) letter ∷ eqb
 unfoldable pub isAsking : Line → ℕ → ℕ → Bool
 isAsking l letter count = every (askingTests l letter count)
 
+-- the request of the last five numbers
+abbrev pub requestAt : Line → Request
+requestAt l = record {
+  size = l .a;
+  alignment = l .b;
+  kind = l .c;
+  granularity = l .d;
+  label = l .value;
+}
+
 -- the last two numbers, the last five, or the last one
 unfoldable pub asked : Line → Option Asked
 asked l =
     cond (isAsking l 110 2) (some (new (l .d) (l .value)))
-    (cond (isAsking l 97 5)
-    (some (call (allocate (record { size = l .a; alignment = l .b; kind = l .c; granularity = l .d; label = l .value }))))
+    (cond (isAsking l 97 5) (some (call (allocate (requestAt l))))
     (cond (isAsking l 102 1) (some (call (free (l .value)))) none))
 
 -- it has a byte

@@ -30,7 +30,9 @@ same-length-2 : tie.Need-same-length-2
 same-length-2 c = search needs
 
 returns-2 : tie.Need-returns-2
-returns-2 c = rw (c .before .before .before .before .before .before .before .before .enum-told .given .1) (question (omega arith) (one-byte (c .before .before .before .before .before .before .put .ensures)) (one-byte (c .before .before .put2 .ensures)))
+returns-2 c =
+    rw (c .before .before .before .before .before .before .before .before .enum-told .given .1)
+    (question (omega arith) (one-byte (c .before .before .before .before .before .before .put .ensures)) (one-byte (c .before .before .put2 .ensures)))
 
 pub put-answer-spec : {M : Type 1} → statement M
 put-answer-spec =

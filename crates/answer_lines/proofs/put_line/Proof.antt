@@ -21,7 +21,12 @@ same-length : tie.Need-same-length
 same-length c = search needs
 
 returns : tie.Need-returns
-returns c = four-fields _ _ _ _ (omega arith) (c .before .before .before .before .before .before .before .before .before .before .before .before .before .before .put-field .ensures) (c .before .before .before .before .before .before .before .before .before .before .put-field2 .ensures) (c .before .before .before .before .before .before .put-field3 .ensures) (c .before .before .put-field4 .ensures)
+returns c =
+    four-fields _ _ _ _ (omega arith)
+    (c .before .before .before .before .before .before .before .before .before .before .before .before .before .before .put-field .ensures)
+    (c .before .before .before .before .before .before .before .before .before .before .put-field2 .ensures)
+    (c .before .before .before .before .before .before .put-field3 .ensures)
+    (c .before .before .put-field4 .ensures)
 
 pub put-line-spec : {M : Type 1} → statement M
 put-line-spec =

@@ -5,7 +5,7 @@ use Rattle.call_lines.proofs.line.Line.is_asking.Statement.{statement}
 use Rattle.call_lines.proofs.line.Line.is_asking.Tie as tie
 
 returns : tie.Need-returns
-returns c = unended _ _ _ (c .if1 .taken)
+returns c = unended _ _ _ (λ e. omega arith)
 
 returns-2 : tie.Need-returns-2
 returns-2 c = other-letter _ _ _ (c .if2 .taken)

@@ -10,7 +10,7 @@ unreadable-requires : tie.Need-unreadable-requires
 unreadable-requires c κs = search needs
 
 returns : tie.Need-returns
-returns c = c .unreadable .ensures ∙ digit-misplaced _ _ (search needs)
+returns c = c .unreadable .ensures ∙ digit-misplaced _ _ (omega arith)
 
 sub-if2 : tie.Need-sub-if2
 sub-if2 c = search needs
@@ -22,10 +22,10 @@ returns-2 : tie.Need-returns-2
 returns-2 c = c .unreadable2 .ensures ∙ digit-too-much _ _ (omega arith)
 
 mul-line : tie.Need-mul-line
-mul-line c = search needs
+mul-line c = omega arith
 
 add-line : tie.Need-add-line
-add-line c = search needs
+add-line c = omega arith
 
 returns-3 : tie.Need-returns-3
 returns-3 c = digit-taken _ _ (omega arith) (omega arith)
