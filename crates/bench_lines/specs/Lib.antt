@@ -5,3 +5,4 @@ pub mod Text
 pub mod Feeding
 -- what is fed in byte by byte prints what the lines print
 pub mod Told
+pub mod Fed

@@ -7,9 +7,10 @@ use lib.Dec.{eqb}
 use Rattle.laws.specs.Tests.{cond-cases}
 use Rattle.call_lines.specs.Format.{cut, ended, lines, readLine, withFirst}
 use Rattle.call_lines.specs.Reading.{fresh, fed, fedAll, asked, isBegun}
-use Rattle.call_lines.specs.ReadLaws.{line-read, none-begun, some-begun}
+use Rattle.call_lines.specs.ReadLaws.{line-read, none-begun, some-begun, fed-parts}
 use Rattle.call_lines.specs.declared.line.Line.{Line}
 use Rattle.answer_lines.specs.Printed.{printed}
+use Rattle.bench_step.specs.Kept.{AtHand, answered-sound}
 use Rattle.bench_step.specs.Step.{Outcome, answered}
 use Rattle.bench_lines.specs.Text.{printedFrom, output}
 
@@ -67,11 +68,6 @@ told-pieces s (b ∷ t) u =
     ∙ sym (append-assoc (tells s b) (told (after s b) t) (told (afterAll (after s b) t) u))
 
 -- ---- line by line
-
-fed-last : (l : Line) (s : List ℕ) (b : ℕ) → fedAll l (s ++ (b ∷ [])) ≡ fed (fedAll l s) b
-unfolding fedAll
-fed-last l [] b = refl
-fed-last l (a ∷ s) b = fed-last (fed l a) s b
 
 -- a line that begins with p
 abbrev within : List ℕ → List ℕ → State
@@ -144,8 +140,9 @@ at-byte : (b : ℕ) (t p ws : List ℕ) → Goes t (p ++ (b ∷ [])) ws
     → told (record { line = fed (fedAll fresh p) b; words = ws }) t
     ++ lastTold (afterAll (record { line = fed (fedAll fresh p) b; words = ws }) t)
     ≡ printedFrom ws (ended (goesOn p (withFirst b (cut 10 t))))
+unfolding fedAll
 at-byte b t p ws ih =
-    ap (λ (l : Line). told (record { line = l; words = ws }) t ++ lastTold (afterAll (record { line = l; words = ws }) t)) (sym (fed-last fresh p b))
+    ap (λ (l : Line). told (record { line = l; words = ws }) t ++ lastTold (afterAll (record { line = l; words = ws }) t)) (sym (fed-parts fresh p (b ∷ [])))
     ∙ ih ∙ ap (λ (ps : List (List ℕ)). printedFrom ws (ended ps)) (sym (goes-on-byte p b (cut 10 t)))
 
 by-byte : (b : ℕ) (t p ws : List ℕ) → Goes t [] (comes (within p ws) .1) → Goes t (p ++ (b ∷ [])) ws → Goes (b ∷ t) p ws
@@ -165,3 +162,13 @@ goes (b ∷ t) p ws = by-byte b t p ws (goes t [] (comes (within p ws) .1)) (goe
 pub text-told : (text : List ℕ) → told start text ++ lastTold (afterAll start text) ≡ output text
 unfolding output lines fedAll
 text-told text = goes text [] [] ∙ ap (λ (ps : List (List ℕ)). printedFrom [] (ended ps)) (goes-on-none text)
+
+-- ---- soundness
+
+-- What is at hand within a text is no block, or a sound table.
+pub text-sound : (s : State) (t : List ℕ) → AtHand (s .words) → AtHand (afterAll s t .words)
+unfolding afterAll
+text-sound s [] h = h
+text-sound s (b ∷ t) h =
+    text-sound (after s b) t
+    (cond-cases (λ (x : State). AtHand (x .words)) (eqb b 10) (λ e. answered-sound (asked (s .line)) (s .words) h) (λ e. h))
