@@ -18,7 +18,7 @@ use std::fmt;
 pub enum Refusal {
     /// The words are too few or too many for a table.
     WordCount = 1,
-    /// The words are no table, or no record, that calls could have written.
+    /// The table, or the record of a dedicated block, breaks a rule.
     Unsound = 2,
     /// Nothing was asked for.
     ZeroSize = 3,

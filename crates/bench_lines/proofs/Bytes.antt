@@ -20,8 +20,8 @@ use Rattle.call_lines.specs.declared.line.Line.{Line}
 use Rattle.answer_lines.specs.Printed.{printed, longest}
 use Rattle.answer_lines.specs.Stored.{Stored}
 use Rattle.bench_step.specs.Kept.{answered-fits}
-use Rattle.bench_step.specs.Step.{Outcome, answered, stored}
-use Rattle.bench_lines.specs.Feeding.{Kept, fits, hasRoom, outcome, put, endedOn, takenOn}
+use Rattle.bench_step.specs.Step.{answered, stored}
+use Rattle.bench_lines.specs.Feeding.{Kept, fits, hasRoom, outcome, endedOn, takenOn}
 use Rattle.bench_lines.specs.declared.Bench.{Bench}
 
 -- ---- the store, and the room

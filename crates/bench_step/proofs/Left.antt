@@ -1,11 +1,10 @@
 -- What the number of a call tells of the words that it leaves. Assumes nothing.
 use Prim.Native.Nat.{ℕ}
 use native.Mathlib.Omega.{arith}
-use mathlib.Core.Bool.{true, false}
 use mathlib.Core.List.{List}
 use mathlib.Core.Logic.{_↔_, _≢_, ⊎-elim}
 use mathlib.Core.Path.{_≡_, refl, sym, ap, _∙_}
-use borrow.Author.Tests.{eq-eqb, ne-eqb}
+use borrow.Author.Tests.{ne-eqb}
 use Rattle.laws.specs.Every.{cases}
 use Rattle.laws.specs.Reply.{Reply, accepted, refused, number}
 use Rattle.model.specs.Block.{allocated}

@@ -1,6 +1,6 @@
 -- `bench_lines::feed` meets its contract. Assumes nothing.
 use Prim.Native.Nat.{_-_}
-use mathlib.Core.Path.{sym, _∙_}
+use mathlib.Core.Path.{_∙_}
 use Rattle.laws.specs.Tests.{failed, passed}
 use lib.ListN.{length}
 use borrow.Author.Needs.{needs}

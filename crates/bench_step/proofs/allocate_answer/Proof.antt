@@ -1,5 +1,5 @@
 -- `bench_step::allocate_answer` meets its contract. Assumes nothing.
-use mathlib.Core.Path.{sym, ap, _∙_}
+use mathlib.Core.Path.{ap}
 use Rattle.sub_allocator.specs.Answers.{replyPlacement}
 use Rattle.bench_step.proofs.Answers.{allocate-fault, allocate-refused, allocate-placed}
 use borrow.Author.Needs.{needs}

@@ -1,7 +1,4 @@
 -- `bench_step::step` meets its contract. Assumes nothing.
-use mathlib.Core.Path.{sym, ap, _∙_}
-use Rattle.call_lines.specs.Asked.{askedOf}
-use Rattle.bench_step.specs.Step.{answered, stored}
 use Rattle.bench_step.proofs.Steps.{unread}
 use borrow.Author.Needs.{needs}
 use Rattle.bench_step.proofs.step.Statement.{statement}
