@@ -2,6 +2,7 @@
 
 use crate::calls::Call;
 use crate::random::Random;
+use crate::requests::{faulty, fitting_size};
 use crate::rust::{self, Request};
 use crate::table::{Chunk, Table};
 
@@ -126,42 +127,11 @@ pub fn fitting(table: &Table, usual: Request, random: &mut Random) -> Request {
     let kept = 1 << random.below(u64::from(chunk.first.trailing_zeros().min(63)) + 1);
     let alignment = random.pick(&[usual.alignment, kept, kept]);
     let padding = rust::align_up(chunk.first, alignment) - chunk.first;
-    // where it would not fit, a sum that wraps says that it does
-    let size = chunk.size.wrapping_sub(padding);
-    let beside = random.pick(&[size.wrapping_sub(1), size.wrapping_add(1)]);
     Request {
-        size: random.pick(&[size, size, size, beside]),
+        size: fitting_size(chunk.size, padding, random),
         alignment,
         ..usual
     }
-}
-
-/// The request with any of its four faults, one of them at least.
-pub fn faulty(usual: Request, random: &mut Random) -> Request {
-    let faults = 1 + random.below(15);
-    let has = |fault: u64| faults >> fault & 1 == 1;
-    let (alignment, granularity) = (no_power(random), no_power(random));
-    let kinds = [0, 3, 257, 258, 1 << 32 | 1, 1 << 63 | 2, u64::MAX];
-    let kind = random.pick(&kinds);
-    Request {
-        size: if has(0) { 0 } else { usual.size },
-        alignment: if has(1) { alignment } else { usual.alignment },
-        kind: if has(2) { kind } else { usual.kind },
-        granularity: if has(3) {
-            granularity
-        } else {
-            usual.granularity
-        },
-        ..usual
-    }
-}
-
-/// A number with no bit set, or with two or more.
-fn no_power(random: &mut Random) -> u64 {
-    let (one, other) = (random.below(64), random.below(63));
-    let two = 1 << one | 1 << (other + u64::from(other >= one));
-    let many = two | random.word();
-    random.pick(&[0, 3, two, two, many, u64::MAX])
 }
 
 fn ids(table: &Table, suits: impl Fn(&Chunk) -> bool) -> Vec<u64> {

@@ -3,6 +3,7 @@
 use lunkaseyo::ffi;
 
 use crate::reading::{read, Reading};
+use crate::requests::fault;
 use crate::rust::Request;
 use crate::table::Table;
 use crate::tracked::{Placed, Tracked};
@@ -102,18 +103,6 @@ pub fn answered(block: &mut Tracked, call: Call) -> Answer {
             Answer::plain(0)
         }
     }
-}
-
-/// The first fault of a request that can be seen without a block.
-pub fn fault(request: Request) -> Option<u64> {
-    let faults = [
-        (3, request.size == 0),
-        (4, !request.alignment.is_power_of_two()),
-        (5, !request.granularity.is_power_of_two()),
-        (6, request.kind != 1 && request.kind != 2),
-    ];
-    let mut found = faults.into_iter().filter(|(_, is_found)| *is_found);
-    found.next().map(|(number, _)| number)
 }
 
 /// The answer to a well-formed request.

@@ -18,6 +18,7 @@ pub mod pages;
 pub mod parts;
 pub mod random;
 pub mod reading;
+pub mod requests;
 pub mod runs;
 pub mod rust;
 pub mod sort;

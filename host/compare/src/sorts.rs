@@ -1,7 +1,8 @@
 //! Sorts of steps: what a call came to, and why. Comparisons count them, so that none passes by
 //! leaving a sort out.
 
-use crate::calls::{fault, Call, Step, NO_ID};
+use crate::calls::{Call, Step, NO_ID};
+use crate::requests::fault;
 use crate::rust::{self, Request};
 use crate::sort::sort;
 use crate::table::{Chunk, Table};

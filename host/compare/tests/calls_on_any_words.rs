@@ -3,13 +3,14 @@
 
 use lunkaseyo_compare::both::Both;
 use lunkaseyo_compare::call_tally::CallTally;
-use lunkaseyo_compare::caller::{faulty, Caller};
+use lunkaseyo_compare::caller::Caller;
 use lunkaseyo_compare::calls::{asked, expected, Call, NO_ID};
 use lunkaseyo_compare::counts::Counts;
 use lunkaseyo_compare::damage::{Damage, Turns};
 use lunkaseyo_compare::generator::each_table;
 use lunkaseyo_compare::parts::in_parts;
 use lunkaseyo_compare::random::Random;
+use lunkaseyo_compare::requests::faulty;
 use lunkaseyo_compare::rust::Request;
 use lunkaseyo_compare::sorts::Sort;
 use lunkaseyo_compare::table::{Table, MOST_SLOTS};

@@ -2,6 +2,7 @@
 
 use std::num::NonZeroU64;
 
+use crate::requests::fault;
 use crate::rust::{
     self, AllocationError, AllocationType, FreeListAllocator, MemoryChunk, Request, SubAllocator,
 };
@@ -97,16 +98,4 @@ impl Block {
 /// Whether a chunk is handed out.
 pub fn is_live(chunk: &MemoryChunk) -> bool {
     chunk.allocation_type != AllocationType::Free
-}
-
-/// The first fault of a request in itself.
-fn fault(request: Request) -> Option<u64> {
-    let faults = [
-        (3, request.size == 0),
-        (4, !request.alignment.is_power_of_two()),
-        (5, !request.granularity.is_power_of_two()),
-        (6, !(1..=2).contains(&request.kind)),
-    ];
-    let first = faults.into_iter().find(|(_, is_there)| *is_there);
-    first.map(|(number, _)| number)
 }

@@ -2,6 +2,7 @@
 
 use crate::block::{is_live, Block};
 use crate::random::Random;
+use crate::requests::{faulty, fitting_size};
 use crate::rust::{self, MemoryChunk, Request};
 
 /// What most calls on a block are like.
@@ -118,34 +119,11 @@ fn fitting(block: Option<&Block>, usual: Request, random: &mut Random) -> Reques
     };
     let alignment = random.pick(&[1, usual.alignment]);
     let padding = rust::align_up(chunk.offset, alignment) - chunk.offset;
-    // less than nothing wraps around: sizes near 2^64 are asked for too
-    let size = chunk.size.wrapping_sub(padding);
-    let beside = random.pick(&[size.wrapping_sub(1), size.wrapping_add(1)]);
     Request {
-        size: random.pick(&[size, size, size, beside]),
+        size: fitting_size(chunk.size, padding, random),
         alignment,
         ..usual
     }
-}
-
-/// The request with a fault, or with several.
-fn faulty(mut request: Request, random: &mut Random) -> Request {
-    for _ in 0..1 + random.below(4) {
-        match random.below(4) {
-            0 => request.size = 0,
-            1 => request.alignment = no_power(random),
-            2 => request.granularity = no_power(random),
-            _ => request.kind = random.pick(&[0, 3, 257, 258, 1 << 32 | 1, 1 << 63 | 2, u64::MAX]),
-        }
-    }
-    request
-}
-
-/// A number with no bit set, or with two or more.
-fn no_power(random: &mut Random) -> u64 {
-    let two = 2 << random.below(63) | 1;
-    let many = random.word() | 3;
-    random.pick(&[0, 3, two, two, many, u64::MAX])
 }
 
 /// Any of the chunks that suit. The order of the hash map has no say in it, as it differs from run to run.

@@ -10,6 +10,8 @@ pub mod habits;
 pub mod line;
 #[path = "../../../host/compare/src/random.rs"]
 pub mod random;
+#[path = "../../../host/compare/src/requests.rs"]
+pub mod requests;
 #[path = "../../../host/compare/src/rust.rs"]
 pub mod rust;
 pub mod script;

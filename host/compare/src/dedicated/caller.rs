@@ -3,8 +3,8 @@
 use lunkaseyo::ffi::Record;
 
 use super::calls::Call;
-use crate::caller::faulty;
 use crate::random::Random;
+use crate::requests::faulty;
 use crate::rust::Request;
 
 /// Any size of a block: 1 byte to 2^64 - 1, most often above 2^40.

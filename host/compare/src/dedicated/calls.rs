@@ -2,7 +2,7 @@
 
 use lunkaseyo::ffi::{self, Record};
 
-use crate::calls::fault;
+use crate::requests::fault;
 use crate::rust::{self, AllocationError, DedicatedBlockAllocator, Request, SubAllocator};
 
 /// What out-values, and the words beside those that are lent, hold before a call.

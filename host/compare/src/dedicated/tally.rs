@@ -4,8 +4,8 @@ use std::fmt;
 
 use super::calls::{is_sound, word, Call, Step};
 use super::sorts::Sort;
-use crate::calls::fault;
 use crate::counts::Counts;
+use crate::requests::fault;
 use crate::rust::Request;
 
 /// Counts by the sorts of steps, and by the numbers that calls come with.
