@@ -44,13 +44,13 @@ use Rattle.opening.proofs.look.table_fault as fault
 use Rattle.opening.proofs.look.table_fault.Symbol as fault-def
 use Rattle.opening.proofs.look.table_fault.Symbol.{name as #opening·look·table-fault}
 use Rattle.opening.proofs.look.table_fault.Met as fault-thm
-use Rattle.leaks.specs.declared.walk.Walk.{Walk}
-use Rattle.leaks.proofs.walk.Walk as T
-use Rattle.leaks.proofs.walk.Walk.Laws as T′
-use Rattle.leaks.proofs.walk.start.Key.{name as #leaks·walk·start}
-use Rattle.leaks.proofs.walk.start as start
-use Rattle.leaks.proofs.walk.start.Statement as stated
-use Rattle.leaks.proofs.walk.start.Code as code
+use Rattle.leak_walk.specs.declared.Walk.{Walk}
+use Rattle.leak_walk.proofs.Walk as T
+use Rattle.leak_walk.proofs.Walk.Laws as T′
+use Rattle.leak_walk.proofs.start.Key.{name as #leak-walk·start}
+use Rattle.leak_walk.proofs.start as start
+use Rattle.leak_walk.proofs.start.Statement as stated
+use Rattle.leak_walk.proofs.start.Code as code
 
 -- of a shared slice nothing has to come back
 abbrev left : Stays (start.ended .signature .params) (start.ended .kept)
@@ -134,6 +134,6 @@ pub start-spec : {M : Type 1} → stated.statement M
 unfolding code.routine tablesOf
 start-spec 𝓤 H 𝓜 𝓖 𝓡 =
     entered 𝓤 H (tripleOf 𝓤 H (𝓖 .A) start.signature (start.spec 𝓤 H (𝓖 .A) (𝓜 .mem) (𝓡 .run)))
-    (tables 𝓤 H 𝓜 𝓡 code.env .C) (tables 𝓤 H 𝓜 𝓡 code.env .Λ) #leaks·walk·start code.function (code.unfolded 𝓤 H 𝓜 𝓡)
+    (tables 𝓤 H 𝓜 𝓡 code.env .C) (tables 𝓤 H 𝓜 𝓡 code.env .Λ) #leak-walk·start code.function (code.unfolded 𝓤 H 𝓜 𝓡)
     (start-meets 𝓤 H (𝓖 .A) (givenOf 𝓤 H 𝓜 𝓖) (𝓜 .mem) (𝓡 .run) (tablesOf 𝓤 H 𝓜 (tables 𝓤 H 𝓜 𝓡 code.env))
     (cited 𝓤 H (Fault 𝓤 H (𝓖 .A) (𝓜 .mem) (𝓡 .run)) 𝓜 𝓡 code.env #opening·look·table-fault fault-def.routine code.calls-opening·look·table-fault (fault-thm.met 𝓤 H 𝓜 𝓖 𝓡)))

@@ -48,23 +48,23 @@ use denote.Triple.Spec.{Meets, tripleOf}
 use denote.Triple.Table.{entered, cited}
 use denote.Triple.Walked.{says, Stays, stay-ref, walkOf, goes-ref, Walks, ends-at, walked, walk-meets}
 use Rattle.laws.specs.Reply.{Reply}
 use Rattle.leaks.specs.Leaks.{Live, stepOn, stepped}
 use Rattle.leaks.specs.declared.steps.Stepped.{Stepped}
-use Rattle.leaks.specs.declared.walk.Walk.{Walk}
 use Rattle.leaks.proofs.leak.Leak as L
 use Rattle.leaks.proofs.leak.Leak.Laws as L′
 use Rattle.leaks.proofs.steps.Stepped as S
 use Rattle.leaks.proofs.steps.Stepped.Laws as S′
-use Rattle.leaks.proofs.walk.Walk as T
-use Rattle.leaks.proofs.walk.Walk.Laws as T′
 use Rattle.leaks.proofs.steps.step_at as step-at
 use Rattle.leaks.proofs.steps.step_at.Symbol as step-at-def
 use Rattle.leaks.proofs.steps.step_at.Symbol.{name as #leaks·steps·step-at}
 use Rattle.leaks.proofs.steps.step_at.Met as step-at-thm
-use Rattle.leaks.proofs.walk.step.Key.{name as #leaks·walk·step}
-use Rattle.leaks.proofs.walk.step as step
-use Rattle.leaks.proofs.walk.step.Statement as stated
-use Rattle.leaks.proofs.walk.step.Code as code
+use Rattle.leak_walk.specs.declared.Walk.{Walk}
+use Rattle.leak_walk.proofs.Walk as T
+use Rattle.leak_walk.proofs.Walk.Laws as T′
+use Rattle.leak_walk.proofs.step.Key.{name as #leak-walk·step}
+use Rattle.leak_walk.proofs.step as step
+use Rattle.leak_walk.proofs.step.Statement as stated
+use Rattle.leak_walk.proofs.step.Code as code
 
 -- the lifetime of the words, and a Walk that holds words for so long
 abbrev lifetime : Lft → NamedLft
@@ -219,6 +219,6 @@ pub step-spec : {M : Type 1} → stated.statement M
 unfolding code.routine tablesOf
 step-spec 𝓤 H 𝓜 𝓖 𝓡 =
     entered 𝓤 H (tripleOf 𝓤 H (𝓖 .A) step.signature (step.spec 𝓤 H (𝓖 .A) (𝓜 .mem) (𝓡 .run)))
-    (tables 𝓤 H 𝓜 𝓡 code.env .C) (tables 𝓤 H 𝓜 𝓡 code.env .Λ) #leaks·walk·step code.function (code.unfolded 𝓤 H 𝓜 𝓡)
+    (tables 𝓤 H 𝓜 𝓡 code.env .C) (tables 𝓤 H 𝓜 𝓡 code.env .Λ) #leak-walk·step code.function (code.unfolded 𝓤 H 𝓜 𝓡)
     (step-meets 𝓤 H (𝓖 .A) (givenOf 𝓤 H 𝓜 𝓖) (𝓜 .mem) (𝓡 .run) (tablesOf 𝓤 H 𝓜 (tables 𝓤 H 𝓜 𝓡 code.env))
     (cited 𝓤 H (StepAt 𝓤 H (𝓖 .A) (𝓜 .mem) (𝓡 .run)) 𝓜 𝓡 code.env #leaks·steps·step-at step-at-def.routine code.calls-leaks·steps·step-at (step-at-thm.met 𝓤 H 𝓜 𝓖 𝓡)))

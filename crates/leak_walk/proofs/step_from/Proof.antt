@@ -1,4 +1,4 @@
--- `walk::step_from` meets its contract: a walk of its MIR, by hand. The local that holds the struct is lent to `step` by `&mut`, for a lifetime that is made for the call, and comes back at the record that `step` left.
+-- `leak_walk::step_from` meets its contract: a walk of its MIR, by hand. The local that holds the struct is lent to `step` by `&mut`, for a lifetime that is made for the call, and comes back at the record that `step` left.
 -- The loan's lifetime is the new ν together with the slice's κ, since the slice has to outlive it. All that is used of `step` is its contract.
 -- Assumes nothing.
 use mathlib.Core.Path.{_≡_, refl, ap}
@@ -47,25 +47,25 @@ use denote.Triple.Table.{entered, cited}
 use denote.Triple.Walked.{says, Stays, stay-none, stay-none-slice, walkOf, goes-none, goes-none-slice, Walks, ends-at, walked, walk-meets}
 use denote.Exit.{yes}
 use borrow.Table.OneValue.{part-in-at, part-out-at}
 use Rattle.leaks.specs.Leaks.{replyLeak, stepOn, stepped}
-use Rattle.leaks.specs.Walks.{stepOf}
 use Rattle.leaks.specs.declared.leak.Leak.{Leak}
 use Rattle.leaks.specs.declared.steps.Stepped.{Stepped}
-use Rattle.leaks.specs.declared.walk.Walk.{Walk}
 use Rattle.leaks.proofs.leak.Leak as L
 use Rattle.leaks.proofs.leak.Leak.Laws as L′
 use Rattle.leaks.proofs.steps.Stepped as S
 use Rattle.leaks.proofs.steps.Stepped.Laws as S′
-use Rattle.leaks.proofs.walk.Walk as T
-use Rattle.leaks.proofs.walk.Walk.Laws as T′
-use Rattle.leaks.proofs.walk.step as step
-use Rattle.leaks.proofs.walk.step.Symbol as step-def
-use Rattle.leaks.proofs.walk.step.Symbol.{name as #leaks·walk·step}
-use Rattle.leaks.proofs.walk.step.Met as step-thm
-use Rattle.leaks.proofs.walk.step_from.Key.{name as #leaks·walk·step-from}
-use Rattle.leaks.proofs.walk.step_from as step-from
-use Rattle.leaks.proofs.walk.step_from.Statement as stated
-use Rattle.leaks.proofs.walk.step_from.Code as code
+use Rattle.leak_walk.specs.Walks.{stepOf}
+use Rattle.leak_walk.specs.declared.Walk.{Walk}
+use Rattle.leak_walk.proofs.Walk as T
+use Rattle.leak_walk.proofs.Walk.Laws as T′
+use Rattle.leak_walk.proofs.step as step
+use Rattle.leak_walk.proofs.step.Symbol as step-def
+use Rattle.leak_walk.proofs.step.Symbol.{name as #leak-walk·step}
+use Rattle.leak_walk.proofs.step.Met as step-thm
+use Rattle.leak_walk.proofs.step_from.Key.{name as #leak-walk·step-from}
+use Rattle.leak_walk.proofs.step_from as step-from
+use Rattle.leak_walk.proofs.step_from.Statement as stated
+use Rattle.leak_walk.proofs.step_from.Code as code
 
 abbrev stayed : Stays (step-from.ended .signature .params) (step-from.ended .kept)
 stayed = (stay-none-slice (0 ∷ []) tt (plain (λ _. u64)) yes, (stay-none (λ _. u64) yes, tt))
@@ -171,7 +171,7 @@ module _ {M : Type 1} (𝓤 : URA M) (H : Heap 𝓤) (A : Atoms 𝓤) (W : Given
       nothing ! $ move ! (1 ∷ 0 ∷ []) $ join ! $ frame ! $ nothing ! $ owned ! u64 (Is u64) (uint-makes 𝓤 H A W w64) n _ (refl, n-fits) $ fjoin ! $ move ! (1 ∷ 0 ∷ []) $ fjoin ! $
       owned ! S.the-row (Is S.the-row) (LL.makes S.the-type S′.the-plain 𝓤 H A) (result t m) _ is $ move ! (1 ∷ 0 ∷ []) $ done !
 
-  module _ (C : Calls 𝓤 H) (Λ : Loops 𝓤 H) (fm : FmC 𝓤 H (W .laws) C) (known : Triple 𝓤 (C #leaks·walk·step) (Step 𝓤 H A at-mem run)) where
+  module _ (C : Calls 𝓤 H) (Λ : Loops 𝓤 H) (fm : FmC 𝓤 H (W .laws) C) (known : Triple 𝓤 (C #leak-walk·step) (Step 𝓤 H A at-mem run)) where
     walk : Is (ShrSlice (named 0) κ u64) s (v ∷ []) → ent 𝓤 (onEntry 𝓤 H A step-from.signature (κ, tt) (q, tt) a vals) (WpFn 𝓤 H C Λ code.function (v ∷ vint w64 n ∷ []) Post)
     walk words-is =
         qed W ((‵ (flft κ q) ⊛ ‵ ftrue) ∷ ‵ (owns (ShrSlice (named 0) κ u64 ∷ u64 ∷ []) a vals) ∷ []) ∵ enter ! C Λ code.function (v ∷ vint w64 n ∷ []) _ $
@@ -210,11 +210,11 @@ module _ {M : Type 1} (𝓤 : URA M) (H : Heap 𝓤) (A : Atoms 𝓤) (W : Given
         keep ! (0 ∷ 4 ∷ []) $ by ! (exits t u (ws .0 .place) (result-is t u (ws .0 .place) is m-fits) (λ i. (e i .0, e i .1 .place))))))))))))))))))
 
 module _ {M : Type 1} (𝓤 : URA M) (H : Heap 𝓤) (A : Atoms 𝓤) (W : Given 𝓤 H A) (mem : Memory → SProp 𝓤) (run : Routine → Fun 𝓤) where
-  step-from-walks : (C : Calls 𝓤 H) (Λ : Loops 𝓤 H) → FmC 𝓤 H (W .laws) C → Triple 𝓤 (C #leaks·walk·step) (Step 𝓤 H A mem run) → Walks 𝓤 H A step-from.ended stayed (WpFn 𝓤 H C Λ code.function) (step-from.clauses 𝓤 H A mem run)
+  step-from-walks : (C : Calls 𝓤 H) (Λ : Loops 𝓤 H) → FmC 𝓤 H (W .laws) C → Triple 𝓤 (C #leak-walk·step) (Step 𝓤 H A mem run) → Walks 𝓤 H A step-from.ended stayed (WpFn 𝓤 H C Λ code.function) (step-from.clauses 𝓤 H A mem run)
   step-from-walks C Λ fm known = walked 𝓤 H A step-from.ended stayed (step-from.clauses 𝓤 H A mem run) (WpFn 𝓤 H C Λ code.function) (λ κs. (slice-vals, (uint-vals w64, tt))) (λ κs. (shr-slice-tells (named 0) (κs .0) u64, (uint-tells w64, tt)))
       (λ κs qs bounds a g are. via 𝓤 _ (fst∗ 𝓤 _ (emp 𝓤)) (walk 𝓤 H A W mem run (κs .0) (qs .0) (a .0) (a .1 .0) (are .1 .0 .1) C Λ fm known (are .0)))
 
-step-from-meets : {M : Type 1} (𝓤 : URA M) (H : Heap 𝓤) (A : Atoms 𝓤) → Given 𝓤 H A → (mem : Memory → SProp 𝓤) (run : Routine → Fun 𝓤) (𝓣 : Tables 𝓤 H) → Triple 𝓤 (𝓣 .C #leaks·walk·step) (Step 𝓤 H A mem run)
+step-from-meets : {M : Type 1} (𝓤 : URA M) (H : Heap 𝓤) (A : Atoms 𝓤) → Given 𝓤 H A → (mem : Memory → SProp 𝓤) (run : Routine → Fun 𝓤) (𝓣 : Tables 𝓤 H) → Triple 𝓤 (𝓣 .C #leak-walk·step) (Step 𝓤 H A mem run)
     → Meets 𝓤 H A step-from.signature (WpFn 𝓤 H (𝓣 .C) (𝓣 .Λ) code.function) (step-from.spec 𝓤 H A mem run)
 step-from-meets 𝓤 H A W mem run 𝓣 known =
     walk-meets 𝓤 H A step-from.ended stayed W (goes-none-slice 𝓤 H A W 1 (0 ∷ []) tt (plain (λ _. u64)) yes, (goes-none 𝓤 H A W 1 (λ _. u64) yes (λ κs x f. refl), tt)) (step-from.clauses 𝓤 H A mem run)
@@ -224,6 +224,6 @@ pub step-from-spec : {M : Type 1} → stated.statement M
 unfolding code.routine tablesOf
 step-from-spec 𝓤 H 𝓜 𝓖 𝓡 =
     entered 𝓤 H (tripleOf 𝓤 H (𝓖 .A) step-from.signature (step-from.spec 𝓤 H (𝓖 .A) (𝓜 .mem) (𝓡 .run)))
-    (tables 𝓤 H 𝓜 𝓡 code.env .C) (tables 𝓤 H 𝓜 𝓡 code.env .Λ) #leaks·walk·step-from code.function (code.unfolded 𝓤 H 𝓜 𝓡)
+    (tables 𝓤 H 𝓜 𝓡 code.env .C) (tables 𝓤 H 𝓜 𝓡 code.env .Λ) #leak-walk·step-from code.function (code.unfolded 𝓤 H 𝓜 𝓡)
     (step-from-meets 𝓤 H (𝓖 .A) (givenOf 𝓤 H 𝓜 𝓖) (𝓜 .mem) (𝓡 .run) (tablesOf 𝓤 H 𝓜 (tables 𝓤 H 𝓜 𝓡 code.env))
-    (cited 𝓤 H (Step 𝓤 H (𝓖 .A) (𝓜 .mem) (𝓡 .run)) 𝓜 𝓡 code.env #leaks·walk·step step-def.routine code.calls-leaks·walk·step (step-thm.met 𝓤 H 𝓜 𝓖 𝓡)))
+    (cited 𝓤 H (Step 𝓤 H (𝓖 .A) (𝓜 .mem) (𝓡 .run)) 𝓜 𝓡 code.env #leak-walk·step step-def.routine code.calls-leak-walk·step (step-thm.met 𝓤 H 𝓜 𝓖 𝓡)))

@@ -1,11 +1,11 @@
 // The walk: it keeps the lent table and its own place, and hands out one live chunk at a time.
-use crate::leak::Leak;
-use crate::steps;
-use crate::steps::Stepped;
+use leaks::leak::Leak;
+use leaks::steps;
+use leaks::steps::Stepped;
 use opening::look;
 ghost use mathlib.Core.Path.{_≡_};
 ghost use Rattle.leaks.specs.Leaks.{replyLeak, stepOn, stepped};
-ghost use Rattle.leaks.specs.Walks.{startOf, stepOf};
+ghost use Rattle.leak_walk.specs.Walks.{startOf, stepOf};
 
 // place: an address, from which on nothing is handed out yet; fault: what the table was refused for at the start, 0 for nothing.
 pub struct Walk<'a> {
