@@ -1,7 +1,7 @@
--- `dedicated_calls::lunkaseyo_dedicated_free` meets its contract. Assumes nothing.
+-- `dedicated_changes_calls::lunkaseyo_dedicated_free` meets its contract. Assumes nothing.
 use borrow.Author.Needs.{needs}
-use Rattle.dedicated_calls.proofs.lunkaseyo_dedicated_free.Statement.{statement}
-use Rattle.dedicated_calls.proofs.lunkaseyo_dedicated_free.Tie as tie
+use Rattle.dedicated_changes_calls.proofs.lunkaseyo_dedicated_free.Statement.{statement}
+use Rattle.dedicated_changes_calls.proofs.lunkaseyo_dedicated_free.Tie as tie
 
 record-of-requires : tie.Need-record-of-requires
 record-of-requires c κs = search needs

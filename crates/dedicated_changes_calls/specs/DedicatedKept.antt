@@ -1,22 +1,15 @@
 -- A refused call on a dedicated block leaves the record's words as they were. Assumes nothing.
 use Prim.Native.Nat.{ℕ}
-use native.Mathlib.Omega.{arith}
-use mathlib.Core.List.{List, [], _∷_}
-use mathlib.Core.Path.{_≡_, refl}
+use mathlib.Core.List.{List}
+use mathlib.Core.Path.{_≡_}
 use lib.ListN.{length}
 use Rattle.laws.specs.Reply.{refused}
 use Rattle.model.specs.Placing.{Request}
 use Rattle.dedicated.specs.Dedicated.{allocateIn, freeIn, renameIn}
 use Rattle.dedicated.specs.Exactly.{allocate-refused, free-refused, rename-refused}
-use Rattle.dedicated_calls.specs.DedicatedCalls.{recordOf, wordsOf, recordOut, placedRecordOut}
-
--- Three words read as a record and written again are the same three.
-pub same-words : (ws : List ℕ) → length ws ≡ 3 → wordsOf (recordOf ws) ≡ ws
-same-words [] e = absurd (omega arith)
-same-words (x ∷ []) e = absurd (omega arith)
-same-words (x ∷ y ∷ []) e = absurd (omega arith)
-same-words (x ∷ y ∷ z ∷ []) e = refl
-same-words (x ∷ y ∷ z ∷ w ∷ ws) e = absurd (omega arith)
+use Rattle.dedicated_words.specs.RecordWords.{recordOf}
+use Rattle.dedicated_words.specs.SameWords.{same-words}
+use Rattle.dedicated_changes_calls.specs.DedicatedChanges.{recordOut, placedRecordOut}
 
 module _ (ws : List ℕ) (three : length ws ≡ 3) {n : ℕ} where
   pub allocate-kept : (r : Request) → allocateIn (recordOf ws) r .0 ≡ refused n

@@ -1,7 +1,7 @@
--- `dedicated_calls::give_record` meets its contract. Assumes nothing.
+-- `dedicated_changes_calls::give_record` meets its contract. Assumes nothing.
 use borrow.Author.Needs.{needs}
-use Rattle.dedicated_calls.proofs.give_record.Statement.{statement}
-use Rattle.dedicated_calls.proofs.give_record.Tie as tie
+use Rattle.dedicated_changes_calls.proofs.give_record.Statement.{statement}
+use Rattle.dedicated_changes_calls.proofs.give_record.Tie as tie
 
 words-of-requires : tie.Need-words-of-requires
 words-of-requires c κs = search needs
