@@ -1,9 +1,9 @@
--- `sizes::is_range` meets its contract. Assumes nothing.
+-- `size_ranges::is_range` meets its contract. Assumes nothing.
 use borrow.Author.Needs.{needs}
 use Rattle.laws.specs.Tests.{failed, passed}
-use Rattle.sizes.specs.Sizes.{isRange}
-use Rattle.sizes.proofs.is_range.Statement.{statement}
-use Rattle.sizes.proofs.is_range.Tie as tie
+use Rattle.size_ranges.specs.SizeRanges.{isRange}
+use Rattle.size_ranges.proofs.is_range.Statement.{statement}
+use Rattle.size_ranges.proofs.is_range.Tie as tie
 
 is-block-size-requires : tie.Need-is-block-size-requires
 is-block-size-requires c κs = search needs

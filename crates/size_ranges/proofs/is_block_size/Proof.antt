@@ -1,11 +1,11 @@
--- `sizes::is_block_size` meets its contract. Assumes nothing.
+-- `size_ranges::is_block_size` meets its contract. Assumes nothing.
 use borrow.Author.Needs.{needs}
 use native.Mathlib.Omega.{arith}
 use borrow.Author.Tests.{le-leb, lt-leb}
-use Rattle.sizes.specs.Sizes.{isBlockSize, MiB}
+use Rattle.size_ranges.specs.SizeRanges.{isBlockSize, MiB}
 use Prim.Native.Nat.{_*_}
-use Rattle.sizes.proofs.is_block_size.Statement.{statement}
-use Rattle.sizes.proofs.is_block_size.Tie as tie
+use Rattle.size_ranges.proofs.is_block_size.Statement.{statement}
+use Rattle.size_ranges.proofs.is_block_size.Tie as tie
 
 mul-if1 : tie.Need-mul-if1
 mul-if1 c = search needs

@@ -1,10 +1,10 @@
--- `sizes::adjust_memblock_size` meets its contract: the two branches are one rounding up. Assumes nothing.
+-- `size_ranges::adjust_memblock_size` meets its contract: the two branches are one rounding up. Assumes nothing.
 use borrow.Author.Needs.{needs}
 use native.Mathlib.Omega.{arith}
 use Rattle.laws.specs.Rounding.{alignDown, alignUp}
-use Rattle.sizes.specs.Sizes.{adjust}
-use Rattle.sizes.proofs.adjust_memblock_size.Statement.{statement}
-use Rattle.sizes.proofs.adjust_memblock_size.Tie as tie
+use Rattle.size_ranges.specs.SizeRanges.{adjust}
+use Rattle.size_ranges.proofs.adjust_memblock_size.Statement.{statement}
+use Rattle.size_ranges.proofs.adjust_memblock_size.Tie as tie
 
 mul-max : tie.Need-mul-max
 mul-max c = search needs

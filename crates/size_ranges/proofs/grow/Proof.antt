@@ -1,12 +1,12 @@
--- `sizes::grow` meets its contract: the shift loses no bit. Assumes nothing.
+-- `size_ranges::grow` meets its contract: the shift loses no bit. Assumes nothing.
 use borrow.Author.Needs.{needs}
 use native.Mathlib.Omega.{arith}
 use Prim.Native.Nat.{ℕ, _*_, _%_, _^_, min}
 use mathlib.Core.Path.{ap, _∙_}
 use lib.Pow.{shl-exact}
-use Rattle.sizes.specs.Reach.{range-least}
-use Rattle.sizes.proofs.grow.Statement.{statement}
-use Rattle.sizes.proofs.grow.Tie as tie
+use Rattle.size_ranges.specs.RangeLaws.{range-least}
+use Rattle.size_ranges.proofs.grow.Statement.{statement}
+use Rattle.size_ranges.proofs.grow.Tie as tie
 
 min-requires : tie.Need-min-requires
 min-requires c κs = search needs
