@@ -1,4 +1,3 @@
 -- What the contracts of this part of the boundary cite.
 pub mod DedicatedCalls
-pub mod DedicatedKept
 pub mod DedicatedExamples

@@ -2,7 +2,6 @@
 
 -- the definitions
 pub mod Leaks
-pub mod Walks
 -- the live chunks of a table, and what is handed out of them, in words alone
 pub mod Lives
 pub mod Handed

@@ -1,19 +1,15 @@
 -- When a walk is refused, with which number, and where a step leaves the place. Assumes nothing.
 use Prim.Native.Nat.{ℕ, zero, suc, _+_}
 use mathlib.Core.List.{List, _∷_}
-use mathlib.Core.Logic.{_↔_, _⊎_, _≢_}
+use mathlib.Core.Logic.{_↔_, _⊎_}
 use mathlib.Core.Option.{Option, none, some}
-use mathlib.Core.Path.{_≡_, refl, sym, ap}
-use denote.Ref.{RefT, now}
+use mathlib.Core.Path.{_≡_, refl, ap}
 use lib.ListN.{replicate}
 use Rattle.laws.specs.Reply.{Reply, accepted, refused}
 use Rattle.words.specs.Soundness.{Sound}
-use Rattle.words.specs.Checked.{sound-exactly}
-use Rattle.opening.specs.Fault.{no-fault, is-fit, unfit}
-use Rattle.opening.specs.Looked.{TableWords, table-exactly}
+use Rattle.opening.specs.Looked.{TableWords}
 use Rattle.opening.specs.Exactly.{asked-refused-1, asked-refused-2, asked-refused}
 use Rattle.leaks.specs.Leaks.{Live, handedOut, liveFrom, leakOn, placeAfter, stepOn}
-use Rattle.leaks.specs.Walks.{startOf}
 use Rattle.leaks.specs.Walked.{walkOn}
 
 -- ---- what is answered from an address on
@@ -63,21 +59,3 @@ module _ (ws : List ℕ) (place : ℕ) where
   walk-refused zero m e = refl
   walk-refused (suc n) m e =
       rw e (ap (λ (r : List (Reply (Option Live))). refused m ∷ r) (walk-refused n m e))
-
--- ---- the start
-
-module _ (words : RefT (List ℕ)) where
-  abbrev ws : List ℕ
-  ws = now words
-
-  -- A walk starts with fault 0 exactly when the words are a sound table's.
-  pub start-0 : startOf words .fault ≡ 0 ↔ (TableWords ws × Sound ws)
-  start-0 = (
-    λ e. let h = is-fit ws e in (table-exactly ws .0 (h .0), sound-exactly ws (h .0) .0 (h .1)),
-    λ h. let t = table-exactly ws .1 (h .0) in sym (no-fault ws t (sound-exactly ws t .1 (h .1))),
-  )
-
-  -- Any other fault is what each step is refused with.
-  pub start-refused : startOf words .fault ≢ 0 → (place : ℕ) → leakOn ws place ≡ refused (startOf words .fault)
-  unfolding leakOn
-  start-refused n place = unfit ws _ n

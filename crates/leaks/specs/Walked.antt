@@ -6,7 +6,6 @@ use mathlib.Core.List.{List, [], _∷_, _++_, map}
 use mathlib.Core.Option.{Option, none, some}
 use mathlib.Core.Path.{_≡_, refl, sym, ap, subst, _∙_}
 use borrow.Author.Tests.{leb-true, leb-false, le-leb, lt-leb}
-use denote.Ref.{RefT, now}
 use lib.Dec.{leb}
 use lib.ListN.{length, replicate}
 use Rattle.laws.specs.Lists.{All, Pairwise, all-map, all-of}
@@ -15,10 +14,8 @@ use Rattle.laws.specs.Tests.{cond-cases}
 use Rattle.words.specs.Soundness.{Sound}
 use Rattle.opening.specs.Looked.{TableWords}
 use Rattle.leaks.specs.Leaks.{Live, placeAfter, stepOn}
-use Rattle.leaks.specs.Walks.{startOf, stepOf}
 use Rattle.leaks.specs.Lives.{lives, from, Before, lives-rise, lives-sizes}
 use Rattle.leaks.specs.Handed.{firstOf, leak-first}
-use Rattle.leaks.specs.declared.walk.Walk.{Walk}
 
 -- ---- the definitions
 
@@ -26,11 +23,6 @@ use Rattle.leaks.specs.declared.walk.Walk.{Walk}
 abbrev pub walkOn : List ℕ → ℕ → ℕ → List (Reply (Option Live))
 walkOn ws place zero = []
 walkOn ws place (suc n) = stepOn ws place .0 ∷ walkOn ws (stepOn ws place .1) n
-
--- the same of the struct
-abbrev pub walkOf : Walk → ℕ → List (Reply (Option Live))
-walkOf w zero = []
-walkOf w (suc n) = stepOf w .0 ∷ walkOf (stepOf w .1) n
 
 -- these chunks are handed out one by one, and then the end is answered so many times
 abbrev pub answers : List Live → ℕ → List (Reply (Option Live))
@@ -105,11 +97,3 @@ module _ (ws : List ℕ) (t : TableWords ws) (s : Sound ws) where
   -- A walk hands out exactly the live chunks, once each and by rising address, then the end, and the end again.
   pub walk-all : (n : ℕ) → walkOn ws 0 (length (lives ws) + n) ≡ answers (lives ws) n
   walk-all n = walks (lives ws) 0 n (from-all 0 (lives ws) (all-of (λ l. 0 ≤ l .first) (lives ws) (λ l m. omega arith)))
-
--- The struct's steps answer the same.
-pub walk-struct : (words : RefT (List ℕ)) (n : ℕ) → walkOf (startOf words) n ≡ walkOn (now words) 0 n
-walk-struct words n = go (startOf words) n
-  where
-    go : (w : Walk) (n : ℕ) → walkOf w n ≡ walkOn (now (w .words)) (w .place) n
-    go w zero = refl
-    go w (suc n) = ap (λ (r : List (Reply (Option Live))). stepOf w .0 ∷ r) (go (stepOf w .1) n)

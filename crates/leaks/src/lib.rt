@@ -1,5 +1,4 @@
-// The live chunks of a table, one at a time by rising address.
+// The live chunks of a table, by rising address: the search for the next one, and a step from a place.
 pub mod leak;
 pub mod live;
 pub mod steps;
-pub mod walk;

@@ -10,7 +10,7 @@ pub struct Stepped {
 }
 
 // The place moves to the end of the chunk that is handed out, and stays where it is at the end and on a refusal.
-pub(crate) fn step_at(words: &[u64], place: u64) -> Stepped
+pub fn step_at(words: &[u64], place: u64) -> Stepped
     ensures { λ r. ⌜ stepped r ≡ stepOn (now (words .entry)) place ⌝ }
 {
     let leak = live::live_from(words, place);

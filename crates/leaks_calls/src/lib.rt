@@ -1,6 +1,6 @@
 // The leak walk at the boundary: its place as a number that the caller keeps, one live chunk's five words out.
+use leak_walk;
 use leaks::leak::Leak;
-use leaks::walk;
 use opening::look;
 ghost use mathlib.Core.Path.{_≡_};
 ghost use Rattle.leaks.specs.Leaks.{stepOn};
@@ -19,7 +19,7 @@ pub extern "C" fn lunkaseyo_leaks_start(words: &[u64], place: &mut u64) -> u64
 pub extern "C" fn lunkaseyo_leaks_step(words: &[u64], place: &mut u64, leak: &mut [u64; 5]) -> u64
     ensures { λ r. ⌜ (r, now (place .exit), now (leak .exit)) ≡ leakOut (stepOn (now (words .entry)) (now (place .entry))) ⌝ }
 {
-    let done = walk::step_from(words, *place);
+    let done = leak_walk::step_from(words, *place);
     *place = done.place;
     let answer = done.leak;
     let Leak::Live {

@@ -1,6 +1,6 @@
 // Whether a step of the leak walk answers as a recorded line says, on the words of the table at hand.
+use leak_walk;
 use leaks::leak::Leak;
-use leaks::walk;
 use recorded_blocks::Outcome;
 
 // At the end the five values are 0.
@@ -36,7 +36,7 @@ pub fn replayed(store: &[u64], fields: [u64; 11], n: usize, lent: usize) -> Outc
             lent,
         };
     }
-    let done = walk::step_from(&store[..lent], fields[1]);
+    let done = leak_walk::step_from(&store[..lent], fields[1]);
     let answer = done.leak;
     let agrees = leak_agrees(answer, fields);
     Outcome {

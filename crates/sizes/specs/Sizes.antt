@@ -1,26 +1,14 @@
 -- The sizes of memory blocks: what each call answers. Assumes nothing.
-use Prim.Native.Nat.{ℕ, _*_, _%_, _^_, min, max}
+use Prim.Native.Nat.{ℕ, _*_, max}
 use mathlib.Core.Bool.{Bool, true, false, cond, _&&_}
 use mathlib.Core.Path.{_≡_}
-use lib.Dec.{leb, eqb}
 use Rattle.laws.specs.Reply.{Reply, accepted, refused}
-use Rattle.laws.specs.Rounding.{alignUp}
+use Rattle.size_ranges.specs.SizeRanges.{MiB, adjust, isRange, grown}
 use Rattle.sizes.specs.declared.AllocationSizes.{AllocationSizes}
 use Rattle.sizes.specs.declared.BlockSize.{BlockSize}
 use Rattle.sizes.specs.declared.BlockSize.the-variants as block-size
 use Rattle.sizes.specs.declared.Changed.{Changed}
 use Rattle.sizes.specs.declared.Changed.the-variants as changed
-
-abbrev pub MiB : ℕ
-MiB = 1024 * 1024
-
--- brought between 4 MiB and 256 MiB
-abbrev pub clamp : ℕ → ℕ
-clamp size = min (max size (4 * MiB)) (256 * MiB)
-
--- clamped, then rounded up to 4 MiB
-unfoldable pub adjust : ℕ → ℕ
-adjust size = alignUp (clamp size) (4 * MiB)
 
 -- each maximum begins as its minimum
 unfoldable pub newSizes : ℕ → ℕ → AllocationSizes
@@ -38,14 +26,6 @@ defaultSizes = record {
   «min_host_memblock_size» = 64 * MiB;
   «max_host_memblock_size» = 64 * MiB;
 }
-
--- what adjusting can give: a multiple of 4 MiB from 4 MiB to 256 MiB
-unfoldable pub isBlockSize : ℕ → Bool
-isBlockSize size = leb (4 * MiB) size && (leb size (256 * MiB) && eqb (size % (4 * MiB)) 0)
-
--- two block sizes, the minimum not above the maximum
-unfoldable pub isRange : ℕ → ℕ → Bool
-isRange least most = isBlockSize least && (isBlockSize most && leb least most)
 
 -- the four sizes are such that the calls can produce them (proved in `Reach`)
 unfoldable pub isProducible : AllocationSizes → Bool
@@ -68,10 +48,6 @@ withMaxHost s size = record {
   «min_host_memblock_size» = s .«min_host_memblock_size»;
   «max_host_memblock_size» = max (adjust size) (s .«min_host_memblock_size»);
 }
-
--- the minimum doubled with each block there is, seven times at most, capped at the maximum
-abbrev pub grown : ℕ → ℕ → ℕ → ℕ
-grown least most count = min (least * 2 ^ min count 7) most
 
 -- sizes that the calls can't produce are refused with 14
 unfoldable pub ifProducible : {A : Type 0} → AllocationSizes → A → Reply A

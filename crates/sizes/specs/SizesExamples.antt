@@ -1,32 +1,17 @@
 -- The paper's examples, by computing. Assumes nothing.
-use Prim.Native.Nat.{ℕ, _*_, _^_}
 use mathlib.Core.Bool.{true, false}
 use mathlib.Core.Path.{_≡_, refl}
 use Rattle.laws.specs.Reply.{accepted, refused}
 use Rattle.laws.specs.Rounding.{alignDown, alignUp}
-use Rattle.sizes.specs.Sizes.{adjust, isBlockSize, isRange, isProducible, newSizes, defaultSizes, withMaxDevice, withMaxHost, ifProducible, setMaxHost, memblockSize}
+use Rattle.size_ranges.specs.SizeRanges.{adjust, isBlockSize, isRange}
+use Rattle.size_ranges.specs.SizeRangesExamples.{mib}
+use Rattle.sizes.specs.Sizes.{isProducible, newSizes, defaultSizes, withMaxDevice, withMaxHost, ifProducible, setMaxHost, memblockSize}
 use Rattle.sizes.specs.declared.AllocationSizes.{AllocationSizes}
-
--- so many MiB
-abbrev mib : ℕ → ℕ
-mib n = n * 2 ^ 20
 
 -- 8 MiB growing to 256 MiB for the device, 4 MiB for the host
 growing : AllocationSizes
 unfolding memblockSize setMaxHost ifProducible isProducible isRange isBlockSize withMaxDevice withMaxHost newSizes adjust alignUp alignDown
 growing = withMaxDevice (newSizes (mib 8) (mib 4)) (mib 256)
-
-between : adjust (mib 5) ≡ mib 8
-unfolding growing
-between = refl
-
-above : adjust (mib 257) ≡ mib 256
-unfolding growing
-above = refl
-
-below : adjust 0 ≡ mib 4
-unfolding growing
-below = refl
 
 default-is-fixed : newSizes (mib 256) (mib 64) ≡ defaultSizes
 unfolding growing

@@ -1,8 +1,9 @@
 -- `sizes::AllocationSizes::get_memblock_size` meets its contract. Assumes nothing.
 use borrow.Author.Needs.{needs}
 use Rattle.laws.specs.Tests.{failed, passed}
+use Rattle.size_ranges.specs.RangeLaws.{range-tested}
 use Rattle.sizes.specs.Sizes.{ifProducible, memblockSize}
-use Rattle.sizes.specs.Reach.{range-tested, told}
+use Rattle.sizes.specs.Reach.{told}
 use Rattle.sizes.proofs.AllocationSizes.get_memblock_size.Statement.{statement}
 use Rattle.sizes.proofs.AllocationSizes.get_memblock_size.Tie as tie
 

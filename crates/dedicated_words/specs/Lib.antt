@@ -1,0 +1,3 @@
+-- What the contracts of the record's words cite.
+pub mod RecordWords
+pub mod SameWords
