@@ -8,3 +8,5 @@ pub mod Told
 pub mod Fed
 -- literal texts
 pub mod TextExamples
+-- literal pieces of a text, in little room
+pub mod FeedingExamples

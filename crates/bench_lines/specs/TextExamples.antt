@@ -21,7 +21,7 @@ use Rattle.bench_step.specs.Step.{newAnswered, callAnswered}
 use Rattle.bench_lines.specs.Text.{printedFrom, output}
 
 -- what a quoted text prints, open to computing
-prints : String → List ℕ
+unfoldable pub prints : String → List ℕ
 unfolding output printedFrom lines ended cut readLine fields askedIn askedBy numbersOf numberOf allDigits valueFrom decimal decimalIn bytes newAnswered callAnswered newOn upTo allocatedOn isTable decode sound rules noneFree allOk chunkOk blockOf chunksOf read encode rows rowAt every has distinct same allocateOn freeOn model.lines
 prints s = output (bytes s)
 
