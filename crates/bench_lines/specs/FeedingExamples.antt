@@ -82,7 +82,7 @@ unfolding fed
 ended = refl
 
 -- In a store of 3587 words nothing is read, and nothing if the block at hand has more words than the store.
-short-store : fed "x\n" 0 (between 0 5) 3587 84 .0 ≡ record { bench = between 0 0; read = 0 }
+short-store : fed "x\n" 1 (between 0 5) 3587 84 .0 ≡ record { bench = between 0 0; read = 1 }
 unfolding fed
 short-store = refl
 

@@ -121,6 +121,11 @@ unsound : comes (call (free 2)) (replicate 11 9) ≡ (some (line 2 0 0 0), repli
 unfolding comes
 unsound = refl
 
+-- ---- an unreadable line
+
+unreadable : answered none eightSlots ≡ (none, eightSlots)
+unreadable = refl
+
 -- ---- the store
 
 -- The words at hand are its first ones, and it keeps its others.
