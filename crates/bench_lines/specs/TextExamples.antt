@@ -66,6 +66,11 @@ ends :
 unfolding prints
 ends = refl
 
+-- An accepted one ends it too, also one of the same size and slots.
+opened-again : prints "n 16 2\na 4 1 1 1 0\nn 16 2\nf 2\n" ≡ bytes "0 0 0 0\n0 0 2 4\n0 0 0 0\n10 0 0 0\n"
+unfolding prints
+opened-again = refl
+
 -- A refusal tells what is allocated, and changes nothing.
 refusals :
     prints "n 16 2\na 4 1 1 1 0\na 0 1 1 1 0\na 4 3 1 1 0\na 4 1 1 0 0\na 4 1 0 1 0\na 13 1 1 1 0\na 4 1 1 1 0\nf 7\nf 2\n"

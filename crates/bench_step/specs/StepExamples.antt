@@ -3,7 +3,7 @@ use Prim.Native.Nat.{ℕ, _+_, _^_}
 use mathlib.Core.List.{List, [], _∷_, _++_, map}
 use mathlib.Core.Option.{Option, none, some}
 use mathlib.Core.Path.{_≡_, refl}
-use lib.ListN.{length, replicate}
+use lib.ListN.{replicate}
 use Rattle.laws.specs.Every.{every}
 use Rattle.laws.specs.Members.{has, distinct, same}
 use Rattle.laws.specs.Splice.{splice}
@@ -29,6 +29,10 @@ comes a ws = answered (some a) ws
 abbrev oneSlot : List ℕ
 oneSlot = 4096 ∷ 0 ∷ 2 ∷ 1 ∷ 1 ∷ 4096 ∷ 0 ∷ 0 ∷ 0 ∷ 0 ∷ 0 ∷ []
 
+-- the paper's block, of the same size with eight slots
+abbrev freshEight : List ℕ
+freshEight = 4096 ∷ 0 ∷ 2 ∷ 1 ∷ 1 ∷ 4096 ∷ replicate 54 0
+
 -- the paper's block after its first request: 100 bytes under id 2 with label 7, and the rest under id 1
 abbrev eightSlots : List ℕ
 eightSlots =
@@ -44,7 +48,7 @@ opened-one : map (comes (new 4096 1)) ([] ∷ oneSlot ∷ eightSlots ∷ []) ≡
 unfolding comes
 opened-one = refl
 
-opened-eight : length (comes (new 4096 8) [] .1) ≡ 60
+opened-eight : map (comes (new 4096 8)) ([] ∷ eightSlots ∷ []) ≡ replicate 2 (some (line 0 0 0 0), freshEight)
 unfolding comes
 opened-eight = refl
 
@@ -83,7 +87,7 @@ unfolding comes
 no-block = refl
 
 -- The paper's first request, and every word after it.
-placed : comes (call (ask 100 1 1 1024 7)) (comes (new 4096 8) [] .1) ≡ (some (line 0 0 2 100), eightSlots)
+placed : comes (call (ask 100 1 1 1024 7)) freshEight ≡ (some (line 0 0 2 100), eightSlots)
 unfolding comes
 placed = refl
 
