@@ -7,7 +7,8 @@ use lib.ListN.{length}
 use Rattle.laws.specs.Decimal.{decimal, decimalIn}
 use Rattle.laws.specs.Letters.{bytes}
 use Rattle.model.specs.Lines.{Line, line}
-use Rattle.answer_lines.specs.Printed.{printed, longest}
+use Rattle.answer_lines.specs.Printed.{printed, answerOf, longest}
+use Rattle.answer_lines.specs.declared.Answer.the-variants as answer
 
 -- what is printed, open to computing
 text : Option Line → List ℕ
@@ -38,3 +39,7 @@ largest = refl
 full : length (printed (some (line (2 ^ 64 - 1) (2 ^ 64 - 1) (2 ^ 64 - 1) (2 ^ 64 - 1)))) ≡ longest
 unfolding text
 full = refl
+
+-- The code's numbers are those of a line, in their order.
+told : answerOf (answer.Line 0 1024 3 1280) ≡ some (line 0 1024 3 1280)
+told = refl

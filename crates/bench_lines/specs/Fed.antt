@@ -9,12 +9,14 @@ use mathlib.Core.Path.{_≡_, refl, sym, ap, _∙_}
 use borrow.Author.Tests.{leb-false}
 use lib.Dec.{eqb}
 use lib.ListN.{length, take, drop, length-append}
+use lib.Seq.{take-all}
 use Rattle.laws.specs.Splice.{splice, splice-on, splice-reaches, splice-none, take-splice}
 use Rattle.laws.specs.Tests.{cond-cases}
 use Rattle.call_lines.specs.Reading as reading
 use Rattle.answer_lines.specs.Printed.{printed, longest}
-use Rattle.bench_lines.specs.Feeding.{Kept, FedKept, emptied, fits, hasRoom, outcome, endedOn, takenOn, stopped, fedFrom, feedOn}
-use Rattle.bench_lines.specs.Told.{State, after, tells, afterAll, told}
+use Rattle.bench_lines.specs.Feeding.{Kept, FedKept, begin, emptied, fits, hasRoom, outcome, endedOn, takenOn, stopped, fedFrom, feedOn}
+use Rattle.bench_lines.specs.Told.{State, after, tells, afterAll, told, lastTold, start, text-told}
+use Rattle.bench_lines.specs.Text.{output}
 use Rattle.bench_lines.specs.declared.Bench.{Bench}
 
 -- what is kept, as a state: the line so far, and the words at hand
@@ -174,3 +176,20 @@ feeds text from s store out f = rw f (by (reads (drop from text) from (emptied s
       stops = h .1 .stops;
       moves = moved (emptied s, store, out) from (drop from text) _ (h .0) refl (h .1);
     }
+
+-- So a text that is fed in by one call, with room for an answer left behind it, is read to its end, and prints with its last line what
+-- its lines print.
+pub whole-text : (text store out : List ℕ) (r : FedKept) → fits begin store ≡ true → r ≡ feedOn text 0 begin store out
+    → hasRoom (r .0 .bench) (r .2) ≡ true
+    → (r .0 .read ≡ length text) × (take (r .0 .bench .used) (r .2) ++ lastTold (stateOf (r .0 .bench) (r .1)) ≡ output text)
+whole-text text store out r f e room = by (rw e (feeds text 0 begin store out f))
+  where
+    by : Feeds text 0 begin store out r
+        → (r .0 .read ≡ length text) × (take (r .0 .bench .used) (r .2) ++ lastTold (stateOf (r .0 .bench) (r .1)) ≡ output text)
+    by h =
+        let end : h .bytes ≡ length text = ⊎-elim (λ l. l) (λ no. cc) (h .stops) in
+        let all : take (h .bytes) text ≡ text = take-all (h .bytes) text (omega arith) in (
+          omega (arith, h .read),
+          ap (λ (t : List ℕ). t ++ lastTold (stateOf (r .0 .bench) (r .1))) (h .prints ∙ ap (told start) all)
+              ∙ ap (λ (s : State). told start text ++ lastTold s) (h .keeps ∙ ap (afterAll start) all) ∙ text-told text,
+        )

@@ -6,3 +6,7 @@ pub mod Feeding
 -- what is fed in byte by byte prints what the lines print
 pub mod Told
 pub mod Fed
+-- literal texts
+pub mod TextExamples
+-- literal pieces of a text, in little room
+pub mod FeedingExamples

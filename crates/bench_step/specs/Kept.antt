@@ -1,4 +1,4 @@
--- What is at hand after a line: nothing, or the words of a sound table. Assumes nothing.
+-- What a line comes to in each case, and what is at hand after it: nothing, or the words of a sound table. Assumes nothing.
 use Prim.Native.Nat.{ℕ, _≤_}
 use native.Mathlib.Omega.{arith}
 use mathlib.Core.Bool.{true}
@@ -6,7 +6,7 @@ use mathlib.Core.List.{List, [], _∷_}
 use mathlib.Core.Logic.{_⊎_, inl, inr}
 use mathlib.Core.Option.{Option, none, some}
 use mathlib.Core.Path.{_≡_, refl, sym, ap, _∙_}
-use borrow.Author.Tests.{leb-true}
+use borrow.Author.Tests.{leb-true, ne-eqb}
 use lib.Dec.{eqb, leb}
 use lib.ListN.{length, replicate, length-replicate}
 use Rattle.laws.specs.Every.{pass}
@@ -53,6 +53,20 @@ new-ways : (P : Outcome → Type 0) (size slots : ℕ) (ws : List ℕ) → P (no
     → (slots ≤ 512 → P (opened (newOn (replicate (wordCount slots) 0) size))) → P (newAnswered size slots ws)
 unfolding newAnswered
 new-ways P size slots ws f g = cond-cases P (upTo 512 slots) (λ u. g (slots-most slots u)) (λ u. f)
+
+-- A new block is the same one whatever was at hand.
+pub new-same : (size slots : ℕ) (ws vs : List ℕ) → upTo 512 slots ≡ true → newAnswered size slots ws ≡ newAnswered size slots vs
+unfolding newAnswered
+new-same size slots ws vs u = rw u
+
+-- With a block at hand every call is answered, and without one none is.
+pub call-done : (c : Call) (ws : List ℕ) → 1 ≤ length ws → callAnswered c ws ≡ lineAfter c ws
+unfolding callAnswered
+call-done c ws h = rw (ne-eqb (length ws) 0 (λ e. omega arith))
+
+pub call-none : (c : Call) → callAnswered c [] ≡ (none, [])
+unfolding callAnswered
+call-none c = refl
 
 -- ---- room
 

@@ -2,3 +2,5 @@
 pub mod Step
 -- what is at hand stays sound
 pub mod Kept
+-- literal lines
+pub mod StepExamples

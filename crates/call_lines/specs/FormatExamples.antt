@@ -10,6 +10,8 @@ use Rattle.laws.specs.Every.{every}
 use Rattle.model.specs.Runs.Call.{allocate, free}
 use Rattle.call_lines.specs.Format.{Asked, cut, ended, lines, fields, allDigits, numberOf, numbersOf, askedBy, askedIn, readLine}
 use Rattle.call_lines.specs.Format.Asked.{new, call}
+use Rattle.call_lines.specs.Asked.{askedOf}
+use Rattle.call_lines.specs.declared.asked.Asked.the-variants as asked
 
 -- what a line asks for, open to computing
 line : String → Option Asked
@@ -38,6 +40,15 @@ second = refl
 freed : line "f 2" ≡ some (call (free 2))
 unfolding line
 freed = refl
+
+-- The code asks for them with its numbers in the same order.
+opened-asked : askedOf (asked.New 4096 8) ≡ line "n 4096 8"
+unfolding line
+opened-asked = refl
+
+second-asked : askedOf (asked.Allocate 256 64 2 1024 8) ≡ line "a 256 64 2 1024 8"
+unfolding line
+second-asked = refl
 
 -- ---- numbers
 
