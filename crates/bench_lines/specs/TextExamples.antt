@@ -1,8 +1,7 @@
 -- The paper's text and small ones, with the bytes that they print, by computing. Assumes nothing.
 use Prim.Native.Nat.{ℕ}
 use Prim.Native.String.{String}
-use mathlib.Core.Bool.{true, false}
-use mathlib.Core.List.{List, [], _∷_, map}
+use mathlib.Core.List.{List, []}
 use mathlib.Core.Path.{_≡_, refl}
 use Rattle.laws.specs.Decimal.{decimal, decimalIn, valueFrom}
 use Rattle.laws.specs.Every.{every}
