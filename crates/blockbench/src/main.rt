@@ -1,6 +1,7 @@
 // Reads lines of calls from standard input, and writes a line for each to standard output.
 use bench_lines;
 use bench_lines::Bench;
+use libc::STDERR_FILENO;
 use libc::STDIN_FILENO;
 use libc::STDOUT_FILENO;
 
@@ -17,6 +18,12 @@ fn move_some(text: &[u8], from: usize, begun: Bench, store: &mut [u64]) -> Moved
     let fed = bench_lines::feed(text, from, begun, store, &mut out);
     let bench = fed.bench;
     let goes_on = io::write_all(STDOUT_FILENO, &out[..bench.used]);
+    if !goes_on {
+        io::write_all(
+            STDERR_FILENO,
+            b"blockbench: the answers cannot be written\n",
+        );
+    }
     Moved {
         bench,
         read: fed.read,
@@ -44,6 +51,9 @@ fn move_read(begun: Bench, store: &mut [u64]) -> Moved {
     let mut space = io::large_buffer();
     let got = libc::read(STDIN_FILENO, &mut space);
     let length = io::count(got, &space);
+    if got < 0 {
+        io::write_all(STDERR_FILENO, b"blockbench: the input cannot be read\n");
+    }
     if length == 0 {
         return Moved {
             bench: begun,
