@@ -12,22 +12,26 @@ struct Moved {
     goes_on: bool,
 }
 
-// Reads on in a piece, and writes out what that prints.
+// Reads on in a piece, and writes out what that prints. Where that cannot be, there is no text any more, and no line begun.
 fn move_some(text: &[u8], from: usize, begun: Bench, store: &mut [u64]) -> Moved {
     let mut out = io::large_buffer();
     let fed = bench_lines::feed(text, from, begun, store, &mut out);
     let bench = fed.bench;
-    let goes_on = io::write_all(STDOUT_FILENO, &out[..bench.used]);
-    if !goes_on {
+    if !io::write_all(STDOUT_FILENO, &out[..bench.used]) {
         io::write_all(
             STDERR_FILENO,
             b"blockbench: the answers cannot be written\n",
         );
+        return Moved {
+            bench: Bench::new(),
+            read: fed.read,
+            goes_on: false,
+        };
     }
     Moved {
         bench,
         read: fed.read,
-        goes_on,
+        goes_on: true,
     }
 }
 

@@ -29,6 +29,9 @@ slice-aggregate-write-all-2 c = search needs
 write-all-requires-2 : tie.Need-write-all-requires-2
 write-all-requires-2 c κs = search needs
 
+new-requires : tie.Need-new-requires
+new-requires c κs = search needs
+
 same-length : tie.Need-same-length
 same-length c = search needs
 
@@ -53,6 +56,7 @@ move-some-spec =
     write-all-requires
     slice-aggregate-write-all-2
     write-all-requires-2
+    new-requires
     same-length
     returns
     same-length-2
