@@ -11,7 +11,7 @@ use lib.Dec.{eqb, leb}
 use lib.ListN.{length, take}
 use lib.Seq.{length-take-le}
 use Rattle.laws.specs.Every.{fail, pass, second}
-use Rattle.laws.specs.Splice.{splice, splice-reaches}
+use Rattle.laws.specs.Splice.{splice}
 use Rattle.laws.specs.Tests.{either, cond-cases}
 use Rattle.model.specs.Lines.{Line as AnswerLine}
 use Rattle.call_lines.specs.Format.{Asked}
@@ -101,10 +101,3 @@ module _ (s : Bench) (b : ℕ) (store out : List ℕ) where
   pub taken-fits : 3588 ≤ length store → s .lent ≤ length store → takenOn s b store out .0 .lent ≤ length store
   unfolding takenOn
   taken-fits m h = cond-cases (λ (k : Kept). k .0 .lent ≤ length store) (eqb b 10) (λ e. ended-fits s store out m h) (λ e. h)
-
-  -- What is written stays within the buffer.
-  pub taken-used : s .used ≤ length out → takenOn s b store out .0 .used ≤ length (takenOn s b store out .2)
-  unfolding takenOn endedOn
-  taken-used h =
-      cond-cases (λ (k : Kept). k .0 .used ≤ length (k .2)) (eqb b 10)
-      (λ e. splice-reaches out (s .used) (printed (outcome s store .0)) h) (λ e. h)

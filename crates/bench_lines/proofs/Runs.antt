@@ -6,7 +6,8 @@ use mathlib.Core.List.{List, [], _∷_}
 use mathlib.Core.Path.{_≡_, refl, sym, ap, _∙_}
 use lib.ListN.{length, drop, getD, drop-of-length-le}
 use lib.Seq.{drop-cons}
-use Rattle.bench_lines.proofs.Bytes.{fitting, taken-fits, taken-used}
+use Rattle.bench_lines.proofs.Bytes.{fitting, taken-fits}
+use Rattle.bench_lines.specs.Fed.{next-fits}
 use Rattle.bench_lines.specs.Feeding.{Kept, FedKept, emptied, fits, hasRoom, takenOn, stopped, fedFrom, feedOn}
 use Rattle.bench_lines.specs.declared.Bench.{Bench}
 
@@ -73,7 +74,7 @@ turn text from first at s store out g h e s′ store′ out′ q l m =
     let lent : s′ .lent ≤ length store =
     rw (ap (λ (k : Kept). k .0 .lent) q) (taken-fits s (getD text at 0) store out (g .long) (g .lent)) in
     let used : s′ .used ≤ length out′ =
-    rw (ap (λ (k : Kept). k .0 .used) q, ap (λ (k : Kept). k .2) q) (taken-used s (getD text at 0) store out (g .used)) in
+    rw (ap (λ (k : Kept). k .0 .used) q, ap (λ (k : Kept). k .2) q) (next-fits s (getD text at 0) store out (g .used)) in
     record {
       stores = l ∙ g .stores;
       outs = m ∙ g .outs;

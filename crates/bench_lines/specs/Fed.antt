@@ -111,7 +111,8 @@ reads-more k at b text r n h p =
       stops = ⊎-elim (λ e. inl (ap suc e)) inr (p .stops);
     }
 
-next-fits : (s : Bench) (b : ℕ) (store out : List ℕ) → s .used ≤ length out → next s b store out .0 .used ≤ length (next s b store out .2)
+-- What is written stays within the buffer.
+pub next-fits : (s : Bench) (b : ℕ) (store out : List ℕ) → s .used ≤ length out → next s b store out .0 .used ≤ length (next s b store out .2)
 next-fits s b store out h =
     rw (next-used s b store out, next-out s b store out) (splice-reaches out (s .used) (tells (stateOf s store) b) h)
 

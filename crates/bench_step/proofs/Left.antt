@@ -13,7 +13,7 @@ use Rattle.table.specs.Layout.{isTable, allocatedWord}
 use Rattle.words.specs.Checked.{sound-exactly}
 use Rattle.words.specs.Soundness.{Sound}
 use Rattle.words.specs.Words.{sound}
-use Rattle.opening.specs.Exactly.{allocated-sum}
+use Rattle.opening.specs.Exactly.{allocated-head}
 use Rattle.opening.specs.Fault.{no-table, not-sound, no-fault, is-fit, unfit}
 use Rattle.opening.specs.Look.{tableFault}
 use Rattle.opening.specs.Looked.{TableWords, table-exactly, looked}
@@ -101,4 +101,4 @@ module _ (ws : List ℕ) where
       let f = is-fit ws e in
       let w = table-exactly ws .0 (f .0) in
       let s = sound-exactly ws (f .0) .0 (f .1) in
-      s .allocated ∙ sym (ap told (allocated-sum ws w s))
+      sym (ap told (allocated-head ws w s))

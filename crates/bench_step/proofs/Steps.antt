@@ -1,7 +1,7 @@
 -- What each way through a step answers, and the store that it leaves. Assumes nothing.
 use Prim.Native.Nat.{ℕ, _≤_}
 use native.Mathlib.Omega.{arith}
-use mathlib.Core.Bool.{Bool, true, false, cond}
+use mathlib.Core.Bool.{true, false}
 use mathlib.Core.List.{List, [], _++_}
 use mathlib.Core.Logic.{_≢_}
 use mathlib.Core.Option.{Option, none, some}
@@ -10,16 +10,14 @@ use borrow.Author.Tests.{eq-eqb, ne-eqb}
 use lib.ListN.{length, take, drop, replicate, length-replicate, take-append-drop}
 use lib.Seq.{length-take-le}
 use Rattle.laws.specs.Reply.{Reply, accepted, refused, number, not-refused}
-use Rattle.laws.specs.Splice.{splice, splice-front}
-use Rattle.model.specs.Block.{fresh}
+use Rattle.laws.specs.Splice.{splice, splice-front, splice-none}
 use Rattle.model.specs.Lines.{Line, line}
 use Rattle.model.specs.Runs.{Call}
-use Rattle.table.specs.Layout.{wordCount, slotCount, isTable}
+use Rattle.table.specs.Layout.{wordCount}
 use Rattle.words.specs.Checks.{upTo}
-use Rattle.words.specs.Words.{encode}
-use Rattle.opening.specs.Creation.{isBlockSize, newOn}
+use Rattle.opening.specs.Creation.{newOn}
 use Rattle.opening.specs.Exactly.{new-cases}
-use Rattle.opening.specs.NewBlock.{new-table}
+use Rattle.opening.specs.NewBlock.{new-table, new-blind}
 use Rattle.bench_step.specs.Kept.{slots-most, after-length}
 use Rattle.bench_step.specs.Step.{Outcome, opened, stored, lineAfter, newAnswered, callAnswered}
 
@@ -55,17 +53,12 @@ module _ (c : Call) (store : List ℕ) (lent : ℕ) (h : lent ≤ length store) 
 
 -- ---- a new block
 
--- A new block asks no more of the words than how many there are.
-same-block : (ws vs : List ℕ) (size : ℕ) → length ws ≡ length vs → opened (newOn ws size) ≡ opened (newOn vs size)
-unfolding newOn isTable
-same-block ws vs size e = rw e (by (isTable vs) (isBlockSize size))
-  where
-    by : (t s : Bool)
-        → opened (cond t (cond s (accepted tt, encode (fresh size (slotCount vs))) (refused 13, ws)) (refused 1, ws))
-        ≡ opened (cond t (cond s (accepted tt, encode (fresh size (slotCount vs))) (refused 13, vs)) (refused 1, vs))
-    by true true = refl
-    by true false = refl
-    by false s = refl
+-- answers that agree, and leave the same words where they are accepted
+agree : (p q : Reply (Unit {0}) × List ℕ) → p .0 ≡ q .0 → (p .0 ≡ accepted tt → p .1 ≡ q .1) → opened p ≡ opened q
+agree (accepted a, ws) (accepted b, vs) e h = ap (λ (x : List ℕ). (some (line 0 0 0 0), x)) (h refl)
+agree (accepted a, ws) (refused m, vs) e h = absurd (not-refused e)
+agree (refused n, ws) (accepted b, vs) e h = absurd (not-refused (sym e))
+agree (refused n, ws) (refused m, vs) e h = ap (λ (x : ℕ). (some (line x 0 0 0), [])) (ap number e)
 
 -- so many slots have so many words
 pub slot-words : (slots n : ℕ) → upTo 512 slots ≡ true → 3588 ≤ n → wordCount slots ≤ n
@@ -85,7 +78,8 @@ module _ (store : List ℕ) (lent size slots : ℕ) where
     as-answered : stored store (opened (newOn (take (wordCount slots) store) size)) ≡ stored store (newAnswered size slots (take lent store))
     unfolding newAnswered
     as-answered =
-        rw u (ap (stored store) (same-block (take (wordCount slots) store) (replicate (wordCount slots) 0) size (lent-words ∙ sym (length-replicate (wordCount slots) 0))))
+        let blind = new-blind (take (wordCount slots) store) (replicate (wordCount slots) 0) size (lent-words ∙ sym (length-replicate (wordCount slots) 0)) in
+        rw u (ap (stored store) (agree _ _ (blind .0) (blind .1)))
 
     -- It is refused, and the words are kept.
     pub new-refused : (a : Reply (Unit {0})) (ws : List ℕ) → (a, ws) ≡ newOn (take (wordCount slots) store) size → number a ≢ 0
@@ -97,7 +91,7 @@ module _ (store : List ℕ) (lent size slots : ℕ) where
         (λ t q. ap (λ (x : Reply (Unit {0}) × List ℕ). x .1) q) (λ t s q. ap (λ (x : Reply (Unit {0}) × List ℕ). x .1) q)
         (λ t s l q. absurd (not-refused (sym (ap (λ (x : Reply (Unit {0}) × List ℕ). x .0) q)))) e in
         let whole : ws ++ drop (wordCount slots) store ≡ splice store 0 [] =
-        ap (λ (v : List ℕ). v ++ drop (wordCount slots) store) kept ∙ take-append-drop (wordCount slots) store ∙ sym (splice-front store []) in
+        ap (λ (v : List ℕ). v ++ drop (wordCount slots) store) kept ∙ take-append-drop (wordCount slots) store ∙ sym (splice-none store 0) in
         ap (λ (v : List ℕ). (some (line m 0 0 0), 0, v)) whole ∙ ap (λ (x : Reply (Unit {0}) × List ℕ). stored store (opened x)) e ∙ as-answered
 
     -- It is made.

@@ -10,10 +10,10 @@ use lib.Dec.{eqb}
 use lib.ListN.{length}
 use borrow.Author.Tests.{ne-eqb}
 use Rattle.laws.specs.Every.{cases}
-use Rattle.laws.specs.Tests.{either, cond-cases}
+use Rattle.laws.specs.Tests.{either, cond-cases, cond-same}
 use Rattle.call_lines.specs.Format.{Asked, withFirst, cut, fields, isDigit, numberOf, numbersOf, askedIn, readLine}
 use Rattle.call_lines.specs.Reading.{unreadable, lettered, numbered, spaced, withSpace, isLetter, fed, fedAll, asked}
-use Rattle.call_lines.specs.ReadSteps.{cond-same, byte-cases, digit-high, digit-no-space, unreadable-asks, any-space, letter-other, number-digit, number-full, number-other, space-digit, space-space, space-other, space-asks, space-cases, numbersFrom, from-digit, from-other, from-zero, from-whole, from-large}
+use Rattle.call_lines.specs.ReadSteps.{byte-cases, digit-high, digit-no-space, unreadable-asks, any-space, letter-other, number-digit, number-full, number-other, space-digit, space-space, space-other, space-asks, space-cases, numbersFrom, from-digit, from-other, from-zero, from-whole, from-large}
 use Rattle.call_lines.specs.Pushing.{pushed, askedPushed, askedFrom, from-pushed, numbers-pushed, shut, numbers-cut, letter-asks, letter-space, no-call}
 use Rattle.call_lines.specs.declared.line.Line.{Line}
 

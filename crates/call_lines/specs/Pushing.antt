@@ -9,10 +9,10 @@ use lib.Dec.{eqb, leb}
 use lib.ListN.{length}
 use borrow.Author.Tests.{ne-eqb}
 use Rattle.laws.specs.Every.{every}
-use Rattle.laws.specs.Tests.{cond-cases}
+use Rattle.laws.specs.Tests.{cond-cases, cond-same}
 use Rattle.call_lines.specs.Format.{Asked, withFirst, cut, numberOf, withNumber, numbersOf, askedBy, askedWith}
 use Rattle.call_lines.specs.Reading.{unreadable, lettered, numbered, spaced, withSpace, isLetter, isAsking, asked}
-use Rattle.call_lines.specs.ReadSteps.{cond-same, numberFrom, numbersFrom}
+use Rattle.call_lines.specs.ReadSteps.{numberFrom, numbersFrom}
 use Rattle.call_lines.specs.declared.line.Line.{Line}
 
 -- a whole number where one may begin

@@ -8,16 +8,12 @@ use mathlib.Core.Path.{_≡_, refl, ap, _∙_}
 use native.Mathlib.Omega.{arith}
 use lib.Dec.{eqb, ltb, leb}
 use borrow.Author.Tests.{eqb-true, leb-true, lt-ltb, le-ltb, le-leb, lt-leb, ne-eqb}
-use Rattle.laws.specs.Decimal.{valueFrom}
+use Rattle.laws.specs.Decimal.{valueFrom, value-grows}
 use Rattle.laws.specs.Every.{every, cases, pass, fail, two}
+use Rattle.laws.specs.Tests.{cond-same}
 use Rattle.call_lines.specs.Format.{withFirst, isDigit, allDigits, numberOf, withNumber, numbersOf}
 use Rattle.call_lines.specs.Reading.{fresh, unreadable, lettered, numbered, spaced, withDigit, spaceTests, withSpace, isLetter, withLetter, fed, fedAll, isAsking, asked}
 use Rattle.call_lines.specs.declared.line.Line.{Line}
-
--- a test that decides nothing
-pub cond-same : {A : Type 0} (t : Bool) (x : A) → cond t x x ≡ x
-cond-same true x = refl
-cond-same false x = refl
 
 -- ---- bytes
 
@@ -160,12 +156,7 @@ pub from-whole : (v : ℕ) (fs : List (List ℕ)) → v < 2 ^ 64 → numbersFrom
 unfolding numbersFrom numberFrom allDigits valueFrom
 from-whole v fs h = rw (lt-ltb v (2 ^ 64) h)
 
--- A value only grows, so from 2^64 on there is no number.
-value-grows : (v : ℕ) (f : List ℕ) → v ≤ valueFrom v f
-unfolding valueFrom
-value-grows v [] = omega arith
-value-grows v (b ∷ f) = omega (arith, value-grows (v * 10 + (b - 48)) f)
-
+-- From 2^64 on there is no number, since a value only grows.
 too-large : (v : ℕ) (f : List ℕ) → 2 ^ 64 ≤ v → numberFrom v f ≡ none
 unfolding numberFrom
 too-large v f h = rw (le-ltb (valueFrom v f) (2 ^ 64) (omega (arith, value-grows v f))) (cond-same (allDigits f) none)

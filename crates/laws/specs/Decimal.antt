@@ -60,6 +60,12 @@ valueFrom x (b ∷ s) = valueFrom (x * 10 + (b - 48)) s
 abbrev pub valueOf : List ℕ → ℕ
 valueOf s = valueFrom 0 s
 
+-- With more bytes it only grows.
+pub value-grows : (x : ℕ) (s : List ℕ) → x ≤ valueFrom x s
+unfolding valueFrom
+value-grows x [] = omega arith
+value-grows x (b ∷ s) = omega (arith, value-grows (x * 10 + (b - 48)) s)
+
 -- One byte more at the end.
 value-last : (x : ℕ) (s : List ℕ) (b : ℕ) → valueFrom x (s ++ (b ∷ [])) ≡ valueFrom x s * 10 + (b - 48)
 unfolding valueFrom

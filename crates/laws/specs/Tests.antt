@@ -22,6 +22,11 @@ pub cond-cases : {A : Type 0} (P : A → Type 0) (t : Bool) {x y : A} → (t ≡
 cond-cases P true f g = f refl
 cond-cases P false f g = g refl
 
+-- a test that picks one of two equal values decides nothing
+pub cond-same : {A : Type 0} (t : Bool) (x : A) → cond t x x ≡ x
+cond-same true x = refl
+cond-same false x = refl
+
 -- what follows `if !f() { return .. }`, where f answers the test b: inside it the test failed, and after it the test passed
 pub failed : {t b : Bool} → t ≡ b → not t ≡ true → b ≡ false
 failed {t} e n = sym e ∙ not-true t n

@@ -8,11 +8,13 @@ use lib.Dec.{eqb}
 use Rattle.laws.specs.Reply.{Reply, accepted, refused}
 use Rattle.model.specs.Block.{Block, allocated}
 use Rattle.table.specs.Layout.{isTable, allocatedWord}
-use Rattle.words.specs.Words.{Read, notATable, unsound, table, blockOf, sound, decode}
-use Rattle.words.specs.Written.{known}
+use Rattle.words.specs.Words.{Read, notATable, unsound, table, sound, decode}
+use Rattle.words.specs.Checked.{sound-exactly}
 use Rattle.opening.specs.Look.{onTable, tableFault}
 use Rattle.opening.specs.Questions.{allocatedOn, isEmptyOn}
-use Rattle.opening.specs.Fault.{unfit, on-block}
+use Rattle.opening.specs.Exactly.{allocated-head}
+use Rattle.opening.specs.Fault.{unfit}
+use Rattle.opening.specs.Looked.{table-exactly}
 
 module _ (ws : List ℕ) where
   pub not-looked : tableFault ws ≢ 0 → refused (tableFault ws) ≡ allocatedOn ws
@@ -20,8 +22,7 @@ module _ (ws : List ℕ) where
   not-looked n = sym (unfit ws _ n)
 
   pub the-total : isTable ws ≡ true → sound ws ≡ true → accepted (allocatedWord ws) ≡ allocatedOn ws
-  unfolding allocatedOn blockOf
-  the-total t s = rw (on-block ws (λ b. accepted (allocated (b .chunks))) t s) (ap accepted (known ws s .allocated))
+  the-total t s = sym (allocated-head ws (table-exactly ws .0 t) (sound-exactly ws t .0 s))
 
   -- ---- whether the total is 0
 

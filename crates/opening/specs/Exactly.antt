@@ -11,7 +11,7 @@ use Rattle.laws.specs.Every.{pass, two, clash}
 use Rattle.laws.specs.Reply.{Reply, accepted, refused, number, not-refused}
 use Rattle.laws.specs.Tests.{either, cond-cases}
 use Rattle.model.specs.Block.{Block, allocated, fresh}
-use Rattle.table.specs.Layout.{isTable, slotCount}
+use Rattle.table.specs.Layout.{isTable, slotCount, allocatedWord}
 use Rattle.words.specs.Words.{encode, blockOf, Read, notATable, unsound, table, decode}
 use Rattle.words.specs.Checks.{upTo}
 use Rattle.words.specs.Soundness.{Sound, liveBytes}
@@ -148,6 +148,10 @@ module _ (ws : List ℕ) (w : TableWords ws) (s : Sound ws) where
   pub allocated-sum : allocatedOn ws ≡ accepted (liveBytes ws (s .walk))
   unfolding allocatedOn
   allocated-sum = sound-answered _ ws w s ∙ ap accepted live-bytes
+
+  -- Which is what the head has.
+  pub allocated-head : allocatedOn ws ≡ accepted (allocatedWord ws)
+  allocated-head = allocated-sum ∙ ap accepted (sym (s .allocated))
 
   -- And `is_empty` whether that is 0.
   pub empty-sum : isEmptyOn ws ≡ accepted (eqb (liveBytes ws (s .walk)) 0)

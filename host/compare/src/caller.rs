@@ -2,7 +2,7 @@
 
 use crate::calls::Call;
 use crate::random::Random;
-use crate::requests::{faulty, fitting_size};
+use crate::requests::{fitting_size, varied};
 use crate::rust::{self, Request};
 use crate::table::{Chunk, Table};
 
@@ -93,15 +93,7 @@ impl Caller {
     /// The next request on a block with this table.
     pub fn request(&self, table: &Table, random: &mut Random) -> Request {
         let usual = self.usual(random);
-        match random.below(16) {
-            0..=3 => fitting(table, usual, random),
-            4 => faulty(usual, random),
-            5 => Request {
-                size: random.up_to_bits(64),
-                ..usual
-            },
-            _ => usual,
-        }
+        varied(usual, |random| fitting(table, usual, random), random)
     }
 
     fn usual(&self, random: &mut Random) -> Request {

@@ -43,6 +43,23 @@ fn no_power(random: &mut Random) -> u64 {
     random.pick(&[0, 3, two, two, many, u64::MAX])
 }
 
+/// The usual request, or now and then another: one that just fits, a faulty one, or one of any size.
+pub fn varied(
+    usual: Request,
+    fitting: impl FnOnce(&mut Random) -> Request,
+    random: &mut Random,
+) -> Request {
+    match random.below(16) {
+        0..=3 => fitting(random),
+        4 => faulty(usual, random),
+        5 => Request {
+            size: random.up_to_bits(64),
+            ..usual
+        },
+        _ => usual,
+    }
+}
+
 /// A size that a chunk of so many bytes just holds behind this padding, now and then but for one byte.
 pub fn fitting_size(bytes: u64, padding: u64, random: &mut Random) -> u64 {
     // where it would not fit, a sum that wraps says that it does

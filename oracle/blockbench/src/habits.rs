@@ -2,7 +2,7 @@
 
 use crate::block::{is_live, Block};
 use crate::random::Random;
-use crate::requests::{faulty, fitting_size};
+use crate::requests::{fitting_size, varied};
 use crate::rust::{self, MemoryChunk, Request};
 
 /// What most calls on a block are like.
@@ -58,15 +58,7 @@ impl Habits {
     /// The next request.
     pub fn request(&self, block: Option<&Block>, random: &mut Random) -> Request {
         let usual = self.usual(random);
-        match random.below(16) {
-            0..=3 => fitting(block, usual, random),
-            4 => faulty(usual, random),
-            5 => Request {
-                size: random.up_to_bits(64),
-                ..usual
-            },
-            _ => usual,
-        }
+        varied(usual, |random| fitting(block, usual, random), random)
     }
 
     fn usual(&self, random: &mut Random) -> Request {
