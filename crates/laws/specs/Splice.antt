@@ -36,11 +36,6 @@ module _ {A : Type 0} where
       ∙ drop-drop (length t) (at + length s) xs ∙ simp (length-append, add-assoc) in
       rw (join, front, rest) (simp append-assoc)
 
-  -- One after the other is both at once.
-  pub splice-splice : (xs : List A) (at : ℕ) (s t : List A) → at + (length s + length t) ≤ length xs →
-      splice (splice xs at s) (at + length s) t ≡ splice xs at (s ++ t)
-  splice-splice xs at s t h = splice-on xs at s t (omega arith)
-
   -- It reaches at least as far as what is written.
   pub splice-reaches : (xs : List A) (at : ℕ) (s : List A) → at ≤ length xs → at + length s ≤ length (splice xs at s)
   unfolding splice
@@ -53,7 +48,7 @@ module _ {A : Type 0} where
       next ≡ at + length s → ys ≡ splice xs at s → zs ≡ splice ys next t → zs ≡ splice xs at (s ++ t)
   splice-both xs ys zs at next s t h n a b =
       b ∙ ap (λ l. splice l next t) a ∙ ap (λ k. splice (splice xs at s) k t) n
-      ∙ splice-splice xs at s t (omega (arith, length-append s t))
+      ∙ splice-on xs at s t (omega arith)
 
   -- At the front the text comes first, and then what it does not cover.
   pub splice-front : (xs ys : List A) → splice xs 0 ys ≡ ys ++ drop (length ys) xs
