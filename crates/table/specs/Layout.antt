@@ -16,6 +16,13 @@ wordCount slots = 4 + 7 * slots
 abbrev pub slotCount : List ℕ → ℕ
 slotCount ws = (length ws - 4) / 7
 
+-- the slots and the words of the largest table
+abbrev pub mostSlots : ℕ
+mostSlots = 512
+
+abbrev pub mostWords : ℕ
+mostWords = wordCount mostSlots
+
 -- the word count is 4 + 7s, s from 1 to 512
 unfoldable pub isTable : List ℕ → Bool
 isTable ws = every (leb 1 (slotCount ws) ∷ leb (slotCount ws) 512 ∷ eqb (length ws) (wordCount (slotCount ws)) ∷ [])

@@ -1,8 +1,21 @@
 // Where the words of a table stand: a head of four words, then seven for each slot.
 ghost use mathlib.Core.Bool.{true};
 ghost use mathlib.Core.Path.{_≡_};
-ghost use Prim.Native.Nat.{_+_, _-_, _<_};
-ghost use Rattle.table.specs.Layout.{isTable, slotCount, Slot, blockSize, allocatedWord, nextId, firstSlot, idAt, sizeAt, firstByteAt, kindAt, labelAt, nextAt, previousAt};
+ghost use Prim.Native.Nat.{_+_, _-_, _≤_, _<_};
+ghost use Rattle.table.specs.Layout.{mostSlots, wordCount, isTable, slotCount, Slot, blockSize, allocatedWord, nextId, firstSlot, idAt, sizeAt, firstByteAt, kindAt, labelAt, nextAt, previousAt};
+
+// A table has at most so many slots, and then so many words.
+pub const MOST_SLOTS: u64 = 512;
+
+pub const MOST_WORDS: usize = 3588;
+
+// How many words a table of so many slots has.
+pub fn word_count(slots: u64) -> usize
+    requires { ⌜ slots ≤ mostSlots ⌝ }
+    ensures { λ r. ⌜ r ≡ wordCount slots ⌝ }
+{
+    4 + 7 * slots as usize
+}
 
 // Whether the word count is 4 + 7s, s from 1 to 512.
 pub fn is_table(w: &[u64]) -> bool
