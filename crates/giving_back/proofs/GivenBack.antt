@@ -9,7 +9,7 @@ use borrow.Author.Tests.{eq-eqb, ne-eqb}
 use Rattle.laws.specs.Cuts.{cut-all, swap-all, drop-all}
 use Rattle.laws.specs.Lists.{All}
 use Rattle.laws.specs.Tests.{cond-cases}
-use Rattle.model.specs.Block.{Chunk, Block, Spot, total, isFree}
+use Rattle.model.specs.Block.{Chunk, Block, Spot, total, isFree, largestBlock}
 use Rattle.model.specs.Choose.{Cut}
 use Rattle.model.specs.Effects.{chunksOf}
 use Rattle.model.specs.GivingBack.{grown, mergeLeft, mergeRight, freed}
@@ -189,7 +189,7 @@ module _ (b : Block) (left : List Chunk) (c : Chunk) where
   next-bounded (d ∷ right) cut h =
       cond-cases (λ z. Bounded (withChunks b (chunksOf z))) (isFree d) (λ t. record {
         bytes =
-            let n : total (reverseAux left (c ∷ d ∷ right)) ≤ 2 ^ 40 = rw cut (h .bytes) in
+            let n : total (reverseAux left (c ∷ d ∷ right)) ≤ largestBlock = rw cut (h .bytes) in
             omega (arith, total-cut left (c ∷ d ∷ right), total-cut left (grown c (d .size) ∷ right));
         labels =
             swap-all Unnamed left c (grown c (d .size)) right (λ u f. refl)
@@ -250,7 +250,7 @@ module _ (ws : List ℕ) (k : ℕ) (z : Spot) (l : LiveIn ws k z) (h : Bounded (
   unfolding setFree
   bounded₁ = rw block₁ (record {
     bytes =
-        let n : total (chunksOf z) ≤ 2 ^ 40 = rw (l .place .cut) (h .bytes) in
+        let n : total (chunksOf z) ≤ largestBlock = rw (l .place .cut) (h .bytes) in
         omega (arith, replaced-total z (grown (z .chunk) 0) (omega arith));
     labels = swap-all Unnamed (z .left) (z .chunk) (grown (z .chunk) 0) (z .right) (λ u f. refl) (rw (l .place .cut) (h .labels));
   })

@@ -6,7 +6,7 @@ use mathlib.Core.Option.{Option, none, some}
 use mathlib.Core.Path.{_≡_}
 use Rattle.laws.specs.Lists.{All}
 use Rattle.laws.specs.Reply.{Reply, accepted, refused}
-use Rattle.model.specs.Block.{Chunk, Block, Spot, total, isFree}
+use Rattle.model.specs.Block.{Chunk, Block, Spot, total, isFree, largestBlock}
 use Rattle.model.specs.Effects.{chunksOf}
 use Rattle.model.specs.GivingBack.{findLive, grown, mergeLeft, release, rename}
 use Rattle.model.specs.Placing.{withChunks}
@@ -60,7 +60,7 @@ joinPrevious z b = withChunks b (mergeLeft (z .left) (z .chunk) (z .right))
 
 -- a block has at most 2^40 bytes, and its free chunks are labelled 0, as while a chunk is given back
 pub record Bounded (b : Block) : Type 0 where
-  pub bytes : total (b .chunks) ≤ 2 ^ 40
+  pub bytes : total (b .chunks) ≤ largestBlock
   pub labels : All (λ c. c .kind ≡ 0 → c .label ≡ 0) (b .chunks)
 
 -- slot k holds a free chunk, or a live one

@@ -1,5 +1,5 @@
 -- Demand 3, its second half: after any calls the live ranges are apart, and are the live chunks'. Assumes nothing.
-use Prim.Native.Nat.{ℕ, _+_, _-_, _^_, _≤_, _<_}
+use Prim.Native.Nat.{ℕ, _+_, _-_, _≤_, _<_}
 use native.Mathlib.Omega.{arith}
 use mathlib.Core.List.{List, [], _∷_, List·Memᴰ}
 use mathlib.Core.List.List·Memᴰ.{List·Memᴰ·head, List·Memᴰ·tail}
@@ -9,7 +9,7 @@ use Rattle.laws.specs.Lists.{All, Pairwise, all-at, all-of, pair-at}
 use Rattle.laws.specs.Powers.{Pow2, pow2-pos}
 use Rattle.laws.specs.Reply.{Reply, accepted, refused}
 use Rattle.laws.specs.Rounding.{alignDown, down-mono}
-use Rattle.model.specs.Block.{Block, Spot, first}
+use Rattle.model.specs.Block.{Block, Spot, first, largestBlock}
 use Rattle.model.specs.Choose.{Cut}
 use Rattle.model.specs.GivingBack.{release, rename}
 use Rattle.model.specs.Holding.{Holding, hold-place, hold-free, hold-rename, hold-fresh}
@@ -104,7 +104,7 @@ module _ (G : ℕ) (pos : 0 < G) where
 abbrev pub Stands : Range → Spot → Type 0
 Stands x z = Holds (first z) (z .chunk) x
 
-module _ (size slots : ℕ) (some : 1 ≤ size) (most : size ≤ 2 ^ 40) (one : 1 ≤ slots) (last : slots ≤ 512) (cs : List Call) where
+module _ (size slots : ℕ) (some : 1 ≤ size) (most : size ≤ largestBlock) (one : 1 ≤ slots) (last : slots ≤ 512) (cs : List Call) where
   -- After any calls on a fresh block, refused ones among them, where every accepted allocation named a granularity of
   -- at least G, a power of two: any two of the ranges that were handed out and not given back have different ids and no
   -- byte in common, and where their kinds differ no byte of the one lies on a page of G bytes with a byte of the other.

@@ -1,8 +1,16 @@
 -- A block: its chunks by rising address, and a chunk with its neighbours. Assumes nothing.
-use Prim.Native.Nat.{ℕ, _+_}
+use Prim.Native.Nat.{ℕ, _+_, _-_, _^_}
 use mathlib.Core.Bool.{Bool, cond}
 use mathlib.Core.List.{List, [], _∷_}
 use lib.Dec.{eqb}
+
+-- the bytes of the largest block
+abbrev pub largestBlock : ℕ
+largestBlock = 2 ^ 40
+
+-- the next id where none is left: ids are 64-bit words, and this one is handed out no more
+abbrev pub noId : ℕ
+noId = 2 ^ 64 - 1
 
 -- slot: the number, from 1, of the chunk's place in the table; kind: 0 free, 1 linear, 2 non-linear; label: 0 unnamed
 pub record Chunk : Type 0 where

@@ -11,7 +11,7 @@ use lib.Dec.{eqb}
 use Rattle.laws.specs.Powers.{Pow2}
 use Rattle.laws.specs.Reply.{accepted, not-refused}
 use Rattle.laws.specs.Tests.{both}
-use Rattle.model.specs.Block.{Chunk, Block, Spot, isFree, first, spots}
+use Rattle.model.specs.Block.{Chunk, Block, Spot, isFree, first, spots, noId}
 use Rattle.model.specs.Choose.{Cut, Found, found, cut-of-spot}
 use Rattle.model.specs.Fit.{Fits}
 use Rattle.model.specs.GivingBack.{isLive, findLive, freed, relabel, releaseAt, release, renameAt, rename}
@@ -65,7 +65,7 @@ put-in h k = record {
 -- not the last, and a slot was empty. What holds in both cases holds of the answer.
 pub placed-cases : (r : Request) (b : Block) → Sound b → (p : Placed) → place r b ≡ accepted p → (P : Placed → Type 0)
     → ((z : Spot) → PutIn r b z → taken r z ≡ z .chunk .size → P (wholeIn r z b))
-    → ((z : Spot) → PutIn r b z → taken r z < z .chunk .size → b .next ≢ 18446744073709551615 → newSlot b ≤ b .slots
+    → ((z : Spot) → PutIn r b z → taken r z < z .chunk .size → b .next ≢ noId → newSlot b ≤ b .slots
     → P (pieceIn r z b))
     → P p
 placed-cases r b s p e P whole part = on (chosen r b) (choice-fits r h b s) (sym (opened r b h) ∙ e)

@@ -1,5 +1,5 @@
 -- The ranges handed out and not given back are those of the live chunks, and every call keeps it so. Assumes nothing.
-use Prim.Native.Nat.{ℕ, _+_, _-_, _^_, _≤_, _<_}
+use Prim.Native.Nat.{ℕ, _+_, _-_, _≤_, _<_}
 use native.Mathlib.Nat.{add-comm}
 use native.Mathlib.Omega.{arith}
 use mathlib.Core.Bool.{true}
@@ -14,7 +14,7 @@ use Rattle.laws.specs.Powers.{Pow2, pow2-pos, pow2-divides}
 use Rattle.laws.specs.Reply.{accepted}
 use Rattle.laws.specs.Rounding.{alignDown}
 use Rattle.pages.specs.Vulkan.{mayStand}
-use Rattle.model.specs.Block.{Chunk, Block, Spot, total, first}
+use Rattle.model.specs.Block.{Chunk, Block, Spot, total, first, largestBlock}
 use Rattle.model.specs.Choose.{Cut}
 use Rattle.model.specs.Effects.{PutIn, placed-cases, released, renamed}
 use Rattle.model.specs.Fit.{stand-apart}
@@ -254,7 +254,7 @@ module _ (G bytes : ℕ) (s : State) (inv : Holding G bytes s) where
 -- ---- the beginning
 
 -- It holds of a fresh block, on which nothing was handed out.
-pub hold-fresh : (G size slots : ℕ) → 1 ≤ size → size ≤ 2 ^ 40 → 1 ≤ slots → slots ≤ 512
+pub hold-fresh : (G size slots : ℕ) → 1 ≤ size → size ≤ largestBlock → 1 ≤ slots → slots ≤ 512
     → Holding G size (begin size slots)
 hold-fresh G size slots a b c d = record {
   sound = fresh-sound size slots a b c d;

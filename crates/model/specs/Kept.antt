@@ -1,5 +1,5 @@
 -- Every accepted call keeps a block sound. Assumes nothing.
-use Prim.Native.Nat.{ℕ, suc, _^_, _≤_, _<_, zero-le}
+use Prim.Native.Nat.{ℕ, suc, _≤_, _<_, zero-le}
 use native.Mathlib.Nat.{le-refl}
 use native.Mathlib.Omega.{arith}
 use mathlib.Core.List.{List, [], _∷_, reverseAux}
@@ -10,7 +10,7 @@ use Rattle.laws.specs.Cuts.{Converse, cut-all, cut-links, put-all, drop-all, sw
 use Rattle.laws.specs.Lists.{All, Pairwise, Head, Linked, all-map, head-map, head-of}
 use Rattle.laws.specs.Reply.{accepted}
 use Rattle.laws.specs.Tests.{cond-cases}
-use Rattle.model.specs.Block.{Chunk, Block, Spot, isFree, fresh}
+use Rattle.model.specs.Block.{Chunk, Block, Spot, isFree, fresh, largestBlock}
 use Rattle.model.specs.Choose.{Cut}
 use Rattle.model.specs.Effects.{chunksOf, replaced, placed-cases, released, renamed}
 use Rattle.model.specs.GivingBack.{grown, mergeLeft, mergeRight, freed, release, rename}
@@ -200,7 +200,7 @@ module _ (b : Block) (s : Sound b) where
       live-sound b z (at-spot z (l .cut)) (z .chunk .kind) label (l .live) (kinds .1 .0))
 
 -- A fresh block is sound.
-pub fresh-sound : (size slots : ℕ) → 1 ≤ size → size ≤ 2 ^ 40 → 1 ≤ slots → slots ≤ 512 → Sound (fresh size slots)
+pub fresh-sound : (size slots : ℕ) → 1 ≤ size → size ≤ largestBlock → 1 ≤ slots → slots ≤ 512 → Sound (fresh size slots)
 fresh-sound size slots a b c d = record {
   slots = (c, d);
   size = (a, b);

@@ -1,5 +1,5 @@
 -- On a sound block the tests of the two neighbours say what Vulkan's rule says. Assumes nothing.
-use Prim.Native.Nat.{ℕ, _+_, _^_, _≤_}
+use Prim.Native.Nat.{ℕ, _+_, _≤_}
 use native.Mathlib.Omega.{arith}
 use mathlib.Core.Bool.{true}
 use mathlib.Core.List.{List, [], _∷_}
@@ -8,7 +8,7 @@ use mathlib.Core.Path.{_≡_, refl, sym, _∙_}
 use Rattle.laws.specs.Cuts.{cut-all}
 use Rattle.laws.specs.Lists.{All}
 use Rattle.pages.specs.Vulkan.{OneLinear, PagesApart, mayStand, may-stand}
-use Rattle.model.specs.Block.{Chunk, Block, Spot, total, first}
+use Rattle.model.specs.Block.{Chunk, Block, Spot, total, first, largestBlock}
 use Rattle.model.specs.Choose.{Cut}
 use Rattle.model.specs.Placing.{Request, lastOf, nextOf, chunkBefore, chunkAfter, asked}
 use Rattle.model.specs.Put.{next-begins}
@@ -31,7 +31,7 @@ next-kind address (c ∷ cs) h = h .0
 -- a well-formed request's bytes lie in a chunk of a sound block
 module _ (r : Request) (h : WellFormed r) (b : Block) (sound : Sound b) (z : Spot) (cut : Cut (b .chunks) z)
     (offset : ℕ) (above : first z ≤ offset) (below : offset + r .size ≤ first z + z .chunk .size) where
-  inside : first z + z .chunk .size ≤ 2 ^ 40
+  inside : first z + z .chunk .size ≤ largestBlock
   inside =
       let e : first z + total (z .chunk ∷ z .right) ≡ b .size =
       sym (total-cut (z .left) (z .chunk ∷ z .right)) ∙ rw cut (sound .whole) in

@@ -8,7 +8,7 @@ use Rattle.laws.specs.Reply.{Reply, accepted, refused}
 use Rattle.laws.specs.Rounding.{alignUp}
 use Rattle.pages.specs.Pages.{isPowerOfTwo}
 use Rattle.pages.specs.Vulkan.{Resource, mayStand}
-use Rattle.model.specs.Block.{Chunk, Block, Spot, total, isFree, first, spots}
+use Rattle.model.specs.Block.{Chunk, Block, Spot, total, isFree, first, spots, noId}
 
 pub record Request : Type 0 where
   pub size : ℕ
@@ -134,7 +134,7 @@ placeWhole r z b = accepted record { offset = offsetIn r z; id = z .chunk .id; b
 
 abbrev pub placePiece : Request → Spot → Block → Reply Placed
 placePiece r z b =
-    cond (eqb (b .next) 18446744073709551615) (refused 8)
+    cond (eqb (b .next) noId) (refused 8)
     (cond (ltb (b .slots) (newSlot b)) (refused 9)
     (accepted record { offset = offsetIn r z; id = b .next; block = splitOff r z b }))
 

@@ -13,7 +13,7 @@ use Rattle.laws.specs.Lists.{All}
 use Rattle.laws.specs.Powers.{Pow2}
 use Rattle.laws.specs.Reply.{Reply, accepted, refused, not-refused}
 use Rattle.laws.specs.Tests.{both, both-pass, cond-cases}
-use Rattle.model.specs.Block.{Chunk, Block, Spot, total, isFree, first, spots}
+use Rattle.model.specs.Block.{Chunk, Block, Spot, total, isFree, first, spots, noId}
 use Rattle.model.specs.Choose.{Cut, Best, best-spot, cut-of-spot, spot-of-cut}
 use Rattle.model.specs.Fit.{Fits, Touches, passed-fits, fits-least, fits-passes}
 use Rattle.model.specs.Placing.{Request, Placed, lastOf, nextOf, chunkBefore, chunkAfter, fitsAt, offsetIn, taken, holds, chosen, newSlot, takeWhole, splitOff, placeIn, fault, unlessFault, place}
@@ -32,16 +32,16 @@ wholeIn r z b = record { offset = offsetIn r z; id = z .chunk .id; block = takeW
 module _ (r : Request) (b : Block) where
   -- every answer for a chosen chunk, with when it is given
   pub answers : (P : Reply Placed → Type 0) (z : Spot)
-      → (taken r z < z .chunk .size → b .next ≡ 18446744073709551615 → P (refused 8))
-      → (taken r z < z .chunk .size → b .next ≢ 18446744073709551615 → b .slots < newSlot b → P (refused 9))
-      → (taken r z < z .chunk .size → b .next ≢ 18446744073709551615 → newSlot b ≤ b .slots
+      → (taken r z < z .chunk .size → b .next ≡ noId → P (refused 8))
+      → (taken r z < z .chunk .size → b .next ≢ noId → b .slots < newSlot b → P (refused 9))
+      → (taken r z < z .chunk .size → b .next ≢ noId → newSlot b ≤ b .slots
       → P (accepted (pieceIn r z b)))
       → (z .chunk .size ≤ taken r z → P (accepted (wholeIn r z b)))
       → P (placeIn r b (some z))
   answers P z no-id no-slot piece whole =
       cond-cases P (ltb (taken r z) (z .chunk .size)) (λ t.
       let l = ltb-true _ _ t in
-      cond-cases P (eqb (b .next) 18446744073709551615) (λ u. no-id l (eqb-true _ _ u)) (λ u.
+      cond-cases P (eqb (b .next) noId) (λ u. no-id l (eqb-true _ _ u)) (λ u.
       cond-cases P (ltb (b .slots) (newSlot b))
       (λ v. no-slot l (eqb-false _ _ u) (ltb-true _ _ v))
       (λ v. piece l (eqb-false _ _ u) (ltb-false _ _ v))))

@@ -10,7 +10,7 @@ use Rattle.laws.specs.Powers.{Pow64}
 use Rattle.laws.specs.Reply.{accepted, refused, number, not-refused}
 use Rattle.laws.specs.Tests.{either}
 use Rattle.pages.specs.Pages.{power-of-two}
-use Rattle.model.specs.Block.{Block, Spot, first}
+use Rattle.model.specs.Block.{Block, Spot, first, noId}
 use Rattle.model.specs.Placing.{Request, offsetIn, takenAt, taken, chosen, newSlot, takeWhole, splitOff, placePiece, placeIn, fault, unlessFault, place}
 use Rattle.model.specs.Put.{Lowest, Choice, answers, opened}
 use Rattle.model.specs.Requests.{WellFormed, Words, formed, no-fault-words, fault-range, fault-size, fault-alignment, fault-granularity, fault-kind}
@@ -114,11 +114,11 @@ module _ (r : Request) (h : WellFormed r) (b : Block) (sound : Sound b) where
         f .1 ∙ rw (lt-ltb (taken r (s .spot)) (s .spot .chunk .size) (omega (arith, s .larger)))
 
     -- A split is accepted where there is an id and an unused slot: the new left piece has the next id.
-    pub split-accepted : b .next ≢ 2 ^ 64 - 1 → (k : ℕ) → 1 ≤ k → k ≤ b .slots → Unused k (b .chunks)
+    pub split-accepted : b .next ≢ noId → (k : ℕ) → 1 ≤ k → k ≤ b .slots → Unused k (b .chunks)
         → place r b ≡ accepted record { offset = s .offset; id = b .next; block = splitOff r (s .spot) b }
     split-accepted n k one top u =
         let f = place-found r h b sound (s .spot) (s .offset) (s .best) in
-        split-found ∙ rw (ne-eqb (b .next) 18446744073709551615 n, le-ltb (b .slots) (newSlot b) free-slot, f .0)
+        split-found ∙ rw (ne-eqb (b .next) noId n, le-ltb (b .slots) (newSlot b) free-slot, f .0)
       where
         free-slot : newSlot b ≤ b .slots
         free-slot =
@@ -128,17 +128,17 @@ module _ (r : Request) (h : WellFormed r) (b : Block) (sound : Sound b) where
             absurd (all-at (λ c. c .slot ≢ k) (b .chunks) u (v .0) (v .1) (v .2)))
             (λ l. l)
 
-    split-no-id : b .next ≡ 2 ^ 64 - 1 → place r b ≡ refused 8
-    split-no-id e = split-found ∙ rw (eq-eqb (b .next) 18446744073709551615 e)
+    split-no-id : b .next ≡ noId → place r b ≡ refused 8
+    split-no-id e = split-found ∙ rw (eq-eqb (b .next) noId e)
 
-    split-no-slot : b .next ≢ 2 ^ 64 - 1 → b .slots < newSlot b → place r b ≡ refused 9
-    split-no-slot n l = split-found ∙ rw (ne-eqb (b .next) 18446744073709551615 n, lt-ltb (b .slots) (newSlot b) l)
+    split-no-slot : b .next ≢ noId → b .slots < newSlot b → place r b ≡ refused 9
+    split-no-slot n l = split-found ∙ rw (ne-eqb (b .next) noId n, lt-ltb (b .slots) (newSlot b) l)
 
   -- what 8 and 9 tell
   NotSplit : ℕ → Type 0
   NotSplit n =
       Splits r b
-      × (((n ≡ 8) × (b .next ≡ 2 ^ 64 - 1)) ⊎ ((n ≡ 9) × (b .next ≢ 2 ^ 64 - 1) × (b .slots < newSlot b)))
+      × (((n ≡ 8) × (b .next ≡ noId)) ⊎ ((n ≡ 9) × (b .next ≢ noId) × (b .slots < newSlot b)))
 
   not-split : (n : ℕ) → 8 ≤ n → place r b ≡ refused n → NotSplit n
   unfolding NotSplit
@@ -172,7 +172,7 @@ module _ (r : Request) (w : Words r) (b : Block) (sound : Sound b) where
   )
 
   -- 8 exactly when a chunk is to be split, and the next id is 2^64 - 1.
-  pub refused-8 : place r b ≡ refused 8 ↔ (WellFormed r × Splits r b × (b .next ≡ 2 ^ 64 - 1))
+  pub refused-8 : place r b ≡ refused 8 ↔ (WellFormed r × Splits r b × (b .next ≡ noId))
   unfolding NotSplit
   refused-8 = (
     λ e.
@@ -184,7 +184,7 @@ module _ (r : Request) (w : Words r) (b : Block) (sound : Sound b) where
 
   -- 9 exactly when a chunk is to be split, the next id is not that, and every slot is used.
   pub refused-9 : place r b ≡ refused 9
-      ↔ (WellFormed r × Splits r b × (b .next ≢ 2 ^ 64 - 1) × ((k : ℕ) → 1 ≤ k → k ≤ b .slots → Used k (b .chunks)))
+      ↔ (WellFormed r × Splits r b × (b .next ≢ noId) × ((k : ℕ) → 1 ≤ k → k ≤ b .slots → Used k (b .chunks)))
   unfolding NotSplit
   refused-9 = (
     λ e.

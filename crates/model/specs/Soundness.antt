@@ -3,7 +3,7 @@ use Prim.Native.Nat.{_^_, _≤_, _<_}
 use mathlib.Core.Logic.{_≢_}
 use mathlib.Core.Path.{_≡_}
 use Rattle.laws.specs.Lists.{All, Pairwise, Linked}
-use Rattle.model.specs.Block.{Chunk, Block, total}
+use Rattle.model.specs.Block.{Chunk, Block, total, largestBlock}
 
 abbrev pub DifferentIds : Chunk → Chunk → Type 0
 DifferentIds x y = x .id ≢ y .id
@@ -20,7 +20,7 @@ pub record Sound (b : Block) : Type 0 where
   -- 1 to 512 slots
   pub slots : (1 ≤ b .slots) × (b .slots ≤ 512)
   -- block size 1 to 2^40
-  pub size : (1 ≤ b .size) × (b .size ≤ 2 ^ 40)
+  pub size : (1 ≤ b .size) × (b .size ≤ largestBlock)
   -- next id at least 2
   pub next : 2 ≤ b .next
   -- ids distinct, at least 1 and below next id

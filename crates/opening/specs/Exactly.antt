@@ -10,7 +10,7 @@ use lib.Dec.{eqb}
 use Rattle.laws.specs.Every.{pass, two, clash}
 use Rattle.laws.specs.Reply.{Reply, accepted, refused, number, not-refused}
 use Rattle.laws.specs.Tests.{either, cond-cases}
-use Rattle.model.specs.Block.{Block, allocated, fresh}
+use Rattle.model.specs.Block.{Block, allocated, fresh, largestBlock}
 use Rattle.table.specs.Layout.{isTable, slotCount, allocatedWord}
 use Rattle.words.specs.Words.{encode, blockOf, Read, notATable, unsound, table, decode}
 use Rattle.words.specs.Checks.{upTo}
@@ -24,25 +24,25 @@ use Rattle.opening.specs.Looked.{TableWords, table-exactly, sound-answer
 
 -- ---- new: when it is refused
 
-size-in : (size : ℕ) → isBlockSize size ≡ true → (1 ≤ size) × (size ≤ 2 ^ 40)
+size-in : (size : ℕ) → isBlockSize size ≡ true → (1 ≤ size) × (size ≤ largestBlock)
 unfolding upTo
 size-in size e = (leb-true _ _ (pass _ 0 e), leb-true _ _ (pass _ 1 e))
 
-size-out : (size : ℕ) → isBlockSize size ≡ false → (size ≡ 0) ⊎ (2 ^ 40 < size)
+size-out : (size : ℕ) → isBlockSize size ≡ false → (size ≡ 0) ⊎ (largestBlock < size)
 unfolding upTo
 size-out size e =
     either _ size 1 (λ l. inl (omega arith))
-    (λ l. either _ (2 ^ 40) size inr (λ h. absurd (clash (two _ _ (le-leb 1 size l) (le-leb size (2 ^ 40) h)) e)))
+    (λ l. either _ largestBlock size inr (λ h. absurd (clash (two _ _ (le-leb 1 size l) (le-leb size largestBlock h)) e)))
 
-not-both-sizes : (size : ℕ) → 1 ≤ size → size ≤ 2 ^ 40 → (size ≡ 0) ⊎ (2 ^ 40 < size) → ⊥
+not-both-sizes : (size : ℕ) → 1 ≤ size → size ≤ largestBlock → (size ≡ 0) ⊎ (largestBlock < size) → ⊥
 not-both-sizes size a b (inl z) = omega arith
 not-both-sizes size a b (inr l) = omega arith
 
 module _ (ws : List ℕ) (size : ℕ) where
   -- What holds of each of its three ways, where that way is taken, holds of the call.
   pub new-cases : (P : Reply (Unit {0}) × List ℕ → Type 0) → ((TableWords ws → ⊥) → P (refused 1, ws))
-      → (TableWords ws → (size ≡ 0) ⊎ (2 ^ 40 < size) → P (refused 13, ws))
-      → (TableWords ws → 1 ≤ size → size ≤ 2 ^ 40 → P (accepted tt, encode (fresh size (slotCount ws))))
+      → (TableWords ws → (size ≡ 0) ⊎ (largestBlock < size) → P (refused 13, ws))
+      → (TableWords ws → 1 ≤ size → size ≤ largestBlock → P (accepted tt, encode (fresh size (slotCount ws))))
       → P (newOn ws size)
   unfolding newOn
   new-cases P f g h =
@@ -60,17 +60,17 @@ module _ (ws : List ℕ) (size : ℕ) where
       (λ w a b. (λ e. absurd (not-refused e), λ n. absurd (n w)))
 
   -- 13 exactly when it is, and the block size is 0 or above 2^40.
-  pub new-refused-13 : newOn ws size .0 ≡ refused 13 ↔ (TableWords ws × ((size ≡ 0) ⊎ (2 ^ 40 < size)))
+  pub new-refused-13 : newOn ws size .0 ≡ refused 13 ↔ (TableWords ws × ((size ≡ 0) ⊎ (largestBlock < size)))
   new-refused-13 =
-      new-cases (λ r. r .0 ≡ refused 13 ↔ (TableWords ws × ((size ≡ 0) ⊎ (2 ^ 40 < size))))
+      new-cases (λ r. r .0 ≡ refused 13 ↔ (TableWords ws × ((size ≡ 0) ⊎ (largestBlock < size))))
       (λ n. (λ e. absurd (omega (arith, ap number e)), λ h. absurd (n (h .0))))
       (λ w s. (λ e. (w, s), λ h. refl))
       (λ w a b. (λ e. absurd (not-refused e), λ h. absurd (not-both-sizes size a b (h .1))))
 
   -- Accepted exactly otherwise.
-  pub new-accepted : newOn ws size .0 ≡ accepted tt ↔ (TableWords ws × (1 ≤ size) × (size ≤ 2 ^ 40))
+  pub new-accepted : newOn ws size .0 ≡ accepted tt ↔ (TableWords ws × (1 ≤ size) × (size ≤ largestBlock))
   new-accepted =
-      new-cases (λ r. r .0 ≡ accepted tt ↔ (TableWords ws × (1 ≤ size) × (size ≤ 2 ^ 40)))
+      new-cases (λ r. r .0 ≡ accepted tt ↔ (TableWords ws × (1 ≤ size) × (size ≤ largestBlock)))
       (λ n. (λ e. absurd (not-refused (sym e)), λ h. absurd (n (h .0))))
       (λ w s. (λ e. absurd (not-refused (sym e)), λ h. absurd (not-both-sizes size (h .1) (h .2) s)))
       (λ w a b. (λ e. (w, a, b), λ h. refl))

@@ -13,7 +13,7 @@ pub fn new(words: &mut [u64], size: u64) -> Created
     if !layout::is_table(words) {
         return Created::Refused(1);
     }
-    if !ranges::is_up_to(1099511627776, size) {
+    if !ranges::is_up_to(ranges::LARGEST_BLOCK, size) {
         return Created::Refused(13);
     }
     fresh::write_fresh(words, size);

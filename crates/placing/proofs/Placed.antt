@@ -8,7 +8,7 @@ use mathlib.Core.Option.{Option, none, some}
 use mathlib.Core.Path.{_≡_, refl, sym, ap, subst, _∙_}
 use Rattle.laws.specs.Powers.{Pow2}
 use Rattle.laws.specs.Reply.{Reply, accepted, refused}
-use Rattle.model.specs.Block.{Spot, total, first, allocated}
+use Rattle.model.specs.Block.{Spot, total, first, allocated, largestBlock, noId}
 use Rattle.model.specs.Placing.{Request, Placed, offsetAt, takenAt, offsetIn, taken, chosen, newSlot, fault, unlessFault, placeIn, place}
 use Rattle.model.specs.Put.{Choice, FitsIn, answers, choice-fits}
 use Rattle.model.specs.Requests.{Formed, no-fault}
@@ -74,7 +74,7 @@ module _ (ws : List ℕ) (k : ℕ) (r : Request) (h : Chosen ws k r) where
       on none e c = let n : _≡_ {A = ℕ} 0 1 = cc in absurd (omega arith)
       on (some y) e c = let q : y ≡ z = cc in rw (← q) (c .room)
 
-  in-block : first z + z .chunk .size ≤ 2 ^ 40
+  in-block : first z + z .chunk .size ≤ largestBlock
   in-block =
       let t : total (z .left) + total (z .chunk ∷ z .right) ≡ total (blockOf ws .chunks) =
       sym (total-cut (z .left) (z .chunk ∷ z .right)) ∙ ap total (place-of .cut) in
@@ -82,7 +82,7 @@ module _ (ws : List ℕ) (k : ℕ) (r : Request) (h : Chosen ws k r) where
       let s = sound-block .size in
       omega arith
 
-  live-bytes : allocatedWord ws + z .chunk .size ≤ 2 ^ 40
+  live-bytes : allocatedWord ws + z .chunk .size ≤ largestBlock
   unfolding blockOf
   live-bytes =
       let a : allocatedWord ws ≡ allocated (blockOf ws .chunks) = known ws (h .sound) .allocated in
@@ -142,9 +142,9 @@ module _ (ws : List ℕ) (k o n : ℕ) (r : Request) (c : Chosen ws k r) (offset
 
   -- where a part of the chunk is taken
   part-of : (P : Reply Given × List ℕ → Type 0)
-      → (nextId ws ≡ 2 ^ 64 - 1 → P (refused 8, ws))
-      → (nextId ws ≢ 2 ^ 64 - 1 → slotCount ws < newSlot (blockOf ws) → P (refused 9, ws))
-      → (nextId ws ≢ 2 ^ 64 - 1 → newSlot (blockOf ws) ≤ slotCount ws
+      → (nextId ws ≡ noId → P (refused 8, ws))
+      → (nextId ws ≢ noId → slotCount ws < newSlot (blockOf ws) → P (refused 9, ws))
+      → (nextId ws ≢ noId → newSlot (blockOf ws) ≤ slotCount ws
       → P (accepted (record { offset = o; id = nextId ws }), encode (splitInTwo (newSlot (blockOf ws)) n (r .kind) (r .label) x (blockOf ws))))
       → P (placedOn ws r)
   unfolding splitInTwo blockOf
@@ -156,12 +156,12 @@ module _ (ws : List ℕ) (k o n : ℕ) (r : Request) (c : Chosen ws k r) (offset
 
   -- id, s and new are what the code reads: the next id, the slots, and the lowest empty one
   module _ (id : ℕ) (is-next : id ≡ nextId ws) where
-    pub no-id : id ≡ 2 ^ 64 - 1 → (refused 8, ws) ≡ placedOn ws r
+    pub no-id : id ≡ noId → (refused 8, ws) ≡ placedOn ws r
     no-id e =
-        let n : nextId ws ≡ 2 ^ 64 - 1 = sym is-next ∙ e in
+        let n : nextId ws ≡ noId = sym is-next ∙ e in
         part-of (λ a. (refused 8, ws) ≡ a) (λ q. refl) (λ q u. absurd (q n)) (λ q u. absurd (q n))
 
-    module _ (more : id ≢ 2 ^ 64 - 1) (s new : ℕ) (is-count : s ≡ slotCount ws) (is-empty : new ≡ newSlot (blockOf ws)) where
+    module _ (more : id ≢ noId) (s new : ℕ) (is-count : s ≡ slotCount ws) (is-empty : new ≡ newSlot (blockOf ws)) where
       pub no-slot : s < new → (refused 9, ws) ≡ placedOn ws r
       no-slot u =
           part-of (λ a. (refused 9, ws) ≡ a) (λ q. absurd (more (is-next ∙ q))) (λ q v. refl) (λ q v. absurd (omega arith))

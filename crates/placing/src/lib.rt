@@ -13,13 +13,16 @@ ghost use Rattle.sub_allocator.specs.Requests.{requestOf};
 ghost use Rattle.sub_allocator.specs.Answers.{replyPlacement};
 ghost use Rattle.placing.specs.Placing.{placedOn, allocateOn, Chosen, Measured};
 
+// The next id where none is left: ids are 64-bit words, and the last one is never handed out.
+const NO_ID: u64 = u64::MAX;
+
 // The first n bytes of the chunk in slot k, which is larger; the request's are the last of them, from the offset on.
 fn place_piece(words: &mut [u64], k: u64, offset: u64, n: u64, request: Request) -> Placement
     requires { ⌜ Measured (now words) k offset n (requestOf request) ⌝ }
     ensures { λ r. ⌜ (replyPlacement r, now (words .exit)) ≡ placedOn (now (words .entry)) (requestOf request) ⌝ }
 {
     let id = layout::next_id(words);
-    if id == u64::MAX {
+    if id == NO_ID {
         return Placement::Refused(8);
     }
     let new = empty::empty_slot(words);

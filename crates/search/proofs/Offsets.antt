@@ -13,6 +13,7 @@ use Rattle.laws.specs.Rounding.{alignUp, up-least}
 use Rattle.laws.specs.Tests.{cond-cases}
 use Rattle.pages.specs.Pages.{isPowerOfTwo, power-of-two}
 use Rattle.pages.specs.Vulkan.{Resource, mayStand}
+use Rattle.model.specs.Block.{largestBlock}
 use Rattle.model.specs.Placing.{Request, fault, asked, raised, offsetAt, takenAt, fitsAt}
 use Rattle.model.specs.Requests.{Words}
 use Rattle.table.specs.Layout.{sizeAt, firstByteAt}
@@ -44,7 +45,7 @@ rounds l p = omega (arith, p .top, pow2-pos (p .two))
 
 -- ---- the offset of a request without a fault, in a chunk of a sound table
 
-module _ (r : Request) (w : Words r) (f : fault r ≡ 0) (begin : ℕ) (low : begin ≤ 2 ^ 40) where
+module _ (r : Request) (w : Words r) (f : fault r ≡ 0) (begin : ℕ) (low : begin ≤ largestBlock) where
   alignment : Power (r .alignment)
   alignment = power (w .alignment) (fault-free r f .1)
 

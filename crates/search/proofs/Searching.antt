@@ -12,7 +12,7 @@ use lib.Dec.{leb, ltb}
 use Rattle.laws.specs.Every.{pass, more, two, cases, clash}
 use Rattle.laws.specs.Tests.{both, both-pass, either}
 use Rattle.pages.specs.Vulkan.{Resource}
-use Rattle.model.specs.Block.{Chunk, Spot, first, isFree, spots}
+use Rattle.model.specs.Block.{Chunk, Spot, first, isFree, spots, largestBlock}
 use Rattle.model.specs.Placing.{Request, takenAt, fitsAt, holds, smaller, best as bestOf, chosen, chunkBefore, chunkAfter}
 use Rattle.table.specs.Layout.{firstSlot, sizeAt, firstByteAt, kindAt, nextAt}
 use Rattle.words.specs.Words.{blockOf, sound}
@@ -116,7 +116,7 @@ module _ (ws : List ℕ) (k : ℕ) (z : Spot) (h : InSlot ws k z) (r : Request) 
 
 -- best and least are the slot and the size of the best so far
 abbrev Noted : Option Spot → ℕ → ℕ → Type 0
-Noted none best least = (best ≡ 0) × (2 ^ 40 < least)
+Noted none best least = (best ≡ 0) × (largestBlock < least)
 Noted (some z) best least = (best ≡ z .chunk .slot) × (least ≡ z .chunk .size)
 
 -- The search is about to look at slot k: those on the left were looked at, and the best has so many bytes to spare.
@@ -130,7 +130,7 @@ pub record Searching (ws : List ℕ) (r : Request) (k best spare : ℕ) : Type 0
   pub word : spare + r .size < 2 ^ 64
 
 -- It begins with the first chunk, and with none chosen.
-pub begin : (ws : List ℕ) (r : Request) (k spare : ℕ) → sound ws ≡ true → k ≡ firstSlot ws → 2 ^ 40 < spare + r .size
+pub begin : (ws : List ℕ) (r : Request) (k spare : ℕ) → sound ws ≡ true → k ≡ firstSlot ws → largestBlock < spare + r .size
     → spare + r .size < 2 ^ 64 → Searching ws r k 0 spare
 begin ws r k spare s e l m = record {
   left = [];
@@ -215,7 +215,7 @@ module _ (ws : List ℕ) (s : sound ws ≡ true) (r : Request) (k best spare : �
       → Searching ws r (nextAt ws k) best spare
   go-worse h n t = go (h .right) (h .along) (h .choice)
     where
-      kept : (o : Option Spot) (z : Spot) → Noted o best least → z .chunk .size ≤ 2 ^ 40 → least ≤ z .chunk .size
+      kept : (o : Option Spot) (z : Spot) → Noted o best least → z .chunk .size ≤ largestBlock → least ≤ z .chunk .size
           → keepBest o (some z) ≡ o
       kept none z q m l = absurd (omega (arith, q .1))
       kept (some x) z q m l = rw (le-ltb (z .chunk .size) (x .chunk .size) (omega (arith, q .1)))

@@ -6,7 +6,7 @@ use mathlib.Core.List.{List, _∷_}
 use mathlib.Core.Logic.{_≢_}
 use mathlib.Core.Path.{_≡_, sym, ap, _∙_}
 use lib.ListN.{getD}
-use Rattle.model.specs.Block.{Spot, total}
+use Rattle.model.specs.Block.{Spot, total, largestBlock}
 use Rattle.model.specs.Sums.{total-cut}
 use Rattle.table.specs.Layout.{Slot, sizeAt, firstByteAt, kindAt}
 use Rattle.words.specs.Words.{blockOf, sound}
@@ -19,7 +19,7 @@ HeldIn ws k = (z : Spot) × InSlot ws k z
 
 module _ (ws : List ℕ) (k : ℕ) (z : Spot) (h : InSlot ws k z) where
   -- It has a byte, and ends at or below 2^40.
-  pub in-bytes : sound ws ≡ true → (1 ≤ sizeAt ws k) × (firstByteAt ws k + sizeAt ws k ≤ 2 ^ 40)
+  pub in-bytes : sound ws ≡ true → (1 ≤ sizeAt ws k) × (firstByteAt ws k + sizeAt ws k ≤ largestBlock)
   in-bytes s =
       let b = known ws s .block in
       let w = in-words h in
@@ -41,5 +41,5 @@ pub held-end : {ws : List ℕ} {k x y : ℕ} → HeldIn ws k → sound ws ≡ tr
 held-end {ws} {k} h s a b = let p = in-bytes ws k (h .0) (h .1) s in (omega arith, omega arith)
 
 -- It begins at or below 2^40.
-pub held-low : {ws : List ℕ} {k x : ℕ} → HeldIn ws k → sound ws ≡ true → x ≡ firstByteAt ws k → x ≤ 2 ^ 40
+pub held-low : {ws : List ℕ} {k x : ℕ} → HeldIn ws k → sound ws ≡ true → x ≡ firstByteAt ws k → x ≤ largestBlock
 held-low {ws} {k} h s a = let p = in-bytes ws k (h .0) (h .1) s in omega arith

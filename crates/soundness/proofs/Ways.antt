@@ -1,5 +1,5 @@
 -- What each way through the parts of the check answers. Assumes nothing.
-use Prim.Native.Nat.{ℕ, zero, suc, _-_, _≤_, _<_, _^_}
+use Prim.Native.Nat.{ℕ, zero, suc, _-_, _≤_, _<_}
 use native.Mathlib.Omega.{arith}
 use native.Mathlib.Numerals.{sub-one}
 use mathlib.Core.Bool.{true, false}
@@ -10,6 +10,7 @@ use borrow.Author.Tests.{eqb-true, lt-leb, le-leb, eq-eqb, ne-eqb}
 use lib.Bits.{bitOr, or-add-and, and-le-l, and-le-r}
 use lib.Dec.{eqb, leb}
 use Rattle.laws.specs.Every.{every, pass, fail, more, none, rest, second, together}
+use Rattle.model.specs.Block.{largestBlock}
 use Rattle.table.specs.Layout.{blockSize, nextId, idAt, sizeAt, firstByteAt, kindAt, labelAt, nextAt, previousAt}
 use Rattle.words.specs.Checks.{headOk, othersZero, emptyBelow}
 
@@ -20,13 +21,13 @@ module _ (ws : List ℕ) where
   unfolding headOk
   no-bytes h = sym (fail _ 0 (lt-leb 1 (blockSize ws) h))
 
-  pub too-large : 2 ^ 40 < blockSize ws → false ≡ headOk ws
+  pub too-large : largestBlock < blockSize ws → false ≡ headOk ws
   unfolding headOk
-  too-large h = sym (fail _ 1 (lt-leb (blockSize ws) (2 ^ 40) h))
+  too-large h = sym (fail _ 1 (lt-leb (blockSize ws) largestBlock h))
 
-  pub by-next : 1 ≤ blockSize ws → blockSize ws ≤ 2 ^ 40 → leb 2 (nextId ws) ≡ headOk ws
+  pub by-next : 1 ≤ blockSize ws → blockSize ws ≤ largestBlock → leb 2 (nextId ws) ≡ headOk ws
   unfolding headOk
-  by-next h l = sym (rest _ _ (le-leb 1 (blockSize ws) h) ∙ second _ _ (le-leb (blockSize ws) (2 ^ 40) l))
+  by-next h l = sym (rest _ _ (le-leb 1 (blockSize ws) h) ∙ second _ _ (le-leb (blockSize ws) largestBlock l))
 
 -- ---- `others_zero`: no bit is set in any of the words
 

@@ -1,6 +1,7 @@
 // Whether a table is sound: the walk along "next" keeps the rules, and every other slot is seven zeros.
 use table::layout;
 use walking;
+use words::ranges;
 ghost use mathlib.Core.Bool.{true};
 ghost use mathlib.Core.Path.{_≡_};
 ghost use Rattle.table.specs.Layout.{isTable, slotCount, Slot};
@@ -53,7 +54,7 @@ fn head_ok(w: &[u64]) -> bool
     if size < 1 {
         return false;
     }
-    if 1099511627776 < size {
+    if ranges::LARGEST_BLOCK < size {
         return false;
     }
     2 <= layout::next_id(w)

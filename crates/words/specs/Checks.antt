@@ -6,7 +6,7 @@ use lib.Dec.{eqb, leb}
 use lib.ListN.{length}
 use Rattle.laws.specs.Every.{every}
 use Rattle.laws.specs.Members.{has}
-use Rattle.model.specs.Block.{Chunk, total, allocated}
+use Rattle.model.specs.Block.{Chunk, total, allocated, largestBlock}
 use Rattle.table.specs.Layout.{slotCount, blockSize, allocatedWord, nextId, firstSlot, idAt, sizeAt, firstByteAt, kindAt, labelAt, nextAt, previousAt}
 use Rattle.words.specs.Words.{chunksOf}
 
@@ -91,7 +91,7 @@ unfoldable pub checked : List ℕ → Bool
 checked ws =
     every
     (leb 1 (blockSize ws)
-    ∷ leb (blockSize ws) (2 ^ 40)
+    ∷ leb (blockSize ws) largestBlock
     ∷ leb 2 (nextId ws)
     ∷ walked ws
     ∷ emptyBelow ws (slotCount ws) (slotCount ws - length (chunksOf ws))
@@ -99,4 +99,4 @@ checked ws =
 
 -- block size 1 to 2^40, next id at least 2
 unfoldable pub headOk : List ℕ → Bool
-headOk ws = every (leb 1 (blockSize ws) ∷ leb (blockSize ws) (2 ^ 40) ∷ leb 2 (nextId ws) ∷ [])
+headOk ws = every (leb 1 (blockSize ws) ∷ leb (blockSize ws) largestBlock ∷ leb 2 (nextId ws) ∷ [])

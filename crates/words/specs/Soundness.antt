@@ -6,6 +6,7 @@ use mathlib.Core.Logic.{_≢_}
 use mathlib.Core.Path.{_≡_}
 use lib.Dec.{eqb}
 use Rattle.laws.specs.Lists.{All, Pairwise, Linked}
+use Rattle.model.specs.Block.{largestBlock}
 use Rattle.table.specs.Layout.{Slot, blockSize, allocatedWord, nextId, firstSlot, idAt, sizeAt, firstByteAt, kindAt, labelAt, nextAt, previousAt, row, emptyRow}
 
 -- a slot that is not seven zeros
@@ -32,7 +33,7 @@ Unlike j k = j ≢ k
 
 pub record Sound (ws : List ℕ) : Type 0 where
   -- block size 1 to 2^40
-  pub size : (1 ≤ blockSize ws) × (blockSize ws ≤ 2 ^ 40)
+  pub size : (1 ≤ blockSize ws) × (blockSize ws ≤ largestBlock)
   -- next id at least 2
   pub next : 2 ≤ nextId ws
   -- ids distinct, at least 1 and below next id

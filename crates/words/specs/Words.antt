@@ -1,11 +1,11 @@
 -- A block as words: how it is written, and how words are read. Assumes nothing.
-use Prim.Native.Nat.{ℕ, zero, suc, _+_, _^_}
+use Prim.Native.Nat.{ℕ, zero, suc, _+_}
 use mathlib.Core.Bool.{Bool, true, false, not, cond}
 use mathlib.Core.List.{List, [], _∷_, _++_, map}
 use lib.Dec.{eqb, leb, ltb}
 use Rattle.laws.specs.Every.{every}
 use Rattle.laws.specs.Members.{distinct, same}
-use Rattle.model.specs.Block.{Chunk, Block, total, allocated, isFree}
+use Rattle.model.specs.Block.{Chunk, Block, total, allocated, isFree, largestBlock}
 use Rattle.table.specs.Layout.{slotCount, isTable, blockSize, nextId, firstSlot, idAt, sizeAt, kindAt, labelAt, nextAt, emptyRow}
 
 -- ---- writing
@@ -86,7 +86,7 @@ rules b =
     (leb 1 (b .slots)
     ∷ leb (b .slots) 512
     ∷ leb 1 (b .size)
-    ∷ leb (b .size) (2 ^ 40)
+    ∷ leb (b .size) largestBlock
     ∷ leb 2 (b .next)
     ∷ distinct (ids (b .chunks))
     ∷ allOk (b .slots) (b .next) (b .chunks)
