@@ -7,6 +7,11 @@ pub mod Refused
 pub mod RoomOnWords
 pub mod KeptOnWords
 pub mod Determined
+-- what a slot tells of its chunk; what an accepted call leaves in the slots
+pub mod Entries
+pub mod HandedOnWords
+pub mod FreedOnWords
+pub mod RenamedOnWords
 -- demand 3's second half on words, and that runs on words are the block's
 pub mod RunsApart
 pub mod RunsWritten
@@ -16,3 +21,4 @@ pub mod TenSteps
 pub mod CallExamples
 -- on the way to these
 pub mod SlotsOnWords
+pub mod ReplacedOnWords
