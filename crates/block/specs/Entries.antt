@@ -1,5 +1,5 @@
 -- What a slot of a table tells of its chunk, before a call and after it. Assumes nothing.
-use Prim.Native.Nat.{ℕ, _≤_, _<_}
+use Prim.Native.Nat.{ℕ, _<_}
 use native.Mathlib.Omega.{arith}
 use mathlib.Core.List.{List}
 use mathlib.Core.Path.{_≡_}
@@ -35,14 +35,13 @@ Empty ws k = Slot ws k × (row ws k ≡ emptyRow)
 -- slot k is the lowest empty one
 pub record LowestEmpty (ws : List ℕ) (k : ℕ) : Type 0 where
   pub empty : Empty ws k
-  pub below : (i : ℕ) → 1 ≤ i → i < k → Used ws i
+  pub below : (i : ℕ) → Slot ws i → i < k → Used ws i
 
 -- There is one at most.
 pub one-lowest : (ws : List ℕ) (j k : ℕ) → LowestEmpty ws j → LowestEmpty ws k → j ≡ k
 one-lowest ws j k a b =
-    either (j ≡ k) j k (λ l. absurd (b .below j (a .empty .0 .0) l .1 (a .empty .1)))
-    (λ l.
-    either (j ≡ k) k j (λ l. absurd (a .below k (b .empty .0 .0) l .1 (b .empty .1))) (λ m. omega (arith, l, m)))
+    either (j ≡ k) j k (λ l. absurd (b .below j (a .empty .0) l .1 (a .empty .1)))
+    (λ m. either (j ≡ k) k j (λ l. absurd (a .below k (b .empty .0) l .1 (b .empty .1))) (λ l. omega (arith, l, m)))
 
 -- slot i is as it was: where it was used it still is and tells the same, where it was empty it still is
 pub record Same (ws ws′ : List ℕ) (i : ℕ) : Type 0 where

@@ -25,46 +25,54 @@ use Rattle.opening.specs.Outcomes.{outcome-accepted}
 use Rattle.sub_allocator.specs.Answers.{Given}
 use Rattle.placing.specs.Placing.{given, allocateOn}
 use Rattle.block.specs.Entries.{Entry, Tells, LowestEmpty, Same}
-use Rattle.block.specs.ReplacedOnWords.{TableOf, table-of, entryOf, NoneAt, standing-tells, cut-stands, none-empty, rest-same, one-tells, one-others}
+use Rattle.block.specs.ReplacedOnWords.{TableOf, table-of, entryOf, NoneAt, standing-tells, cut-stands, none-empty, rest-same, inPlace, one-tells, one-others}
 use Rattle.block.specs.RoomOnWords.{BestAt, best-words, room-accepted}
 use Rattle.block.specs.SlotsOnWords.{Standing, table-known, slot-holds, every-chunk}
 
--- the chunk in slot k is handed out whole: it becomes live under its own id, which is told, and no id is spent
+-- ---- what the slots tell of the chunk that was in slot k
+
+-- handed out whole, it is live under its own id
+abbrev pub wholeEntry : Request → List ℕ → ℕ → Entry
+wholeEntry r ws k = record { id = idAt ws k; size = sizeAt ws k; first = firstByteAt ws k; kind = r .kind; label = r .label }
+
+-- split at the request's end, its left piece is live under the next id: padding and size, from its first byte on
+abbrev pub pieceEntry : Request → List ℕ → ℕ → ℕ → Entry
+pieceEntry r ws k offset = record {
+  id = nextId ws;
+  size = offset - firstByteAt ws k + r .size;
+  first = firstByteAt ws k;
+  kind = r .kind;
+  label = r .label;
+}
+
+-- and the remainder is free under its own id: from the request's end to its own
+abbrev pub remainderEntry : Request → List ℕ → ℕ → ℕ → Entry
+remainderEntry r ws k offset = record {
+  id = idAt ws k;
+  size = firstByteAt ws k + sizeAt ws k - (offset + r .size);
+  first = offset + r .size;
+  kind = 0;
+  label = 0;
+}
+
+-- the chunk in slot k is handed out whole: the id told is its own, and no id is spent
 pub record WholeAt (r : Request) (ws ws′ : List ℕ) (k : ℕ) (g : Given) : Type 0 where
   pub id : g .id ≡ idAt ws k
   pub next : nextId ws′ ≡ nextId ws
-  pub chunk : Tells ws′ k record {
-    id = idAt ws k;
-    size = sizeAt ws k;
-    first = firstByteAt ws k;
-    kind = r .kind;
-    label = r .label;
-  }
+  pub chunk : Tells ws′ k (wholeEntry r ws k)
   -- every other slot is as it was
   pub others : (i : ℕ) → i ≢ k → Same ws ws′ i
 
--- the chunk in slot k is split: a new left piece has the next id, which is told and rises by one
+-- the chunk in slot k is split: the id told is the next one, which rises by one
 pub record SplitAt (r : Request) (ws ws′ : List ℕ) (k : ℕ) (g : Given) : Type 0 where
   pub id : g .id ≡ nextId ws
-  pub next : nextId ws′ ≡ nextId ws + 1
-  -- the piece takes the lowest empty slot, and padding and size from the chunk's first byte on
+  pub next : nextId ws′ ≡ 1 + nextId ws
+  -- the new left piece takes the lowest empty slot
   pub slot : ℕ
   pub lowest : LowestEmpty ws slot
-  pub piece : Tells ws′ slot record {
-    id = nextId ws;
-    size = g .offset - firstByteAt ws k + r .size;
-    first = firstByteAt ws k;
-    kind = r .kind;
-    label = r .label;
-  }
-  -- the remainder stays in slot k under the old id, free, from the request's end to the chunk's
-  pub remainder : Tells ws′ k record {
-    id = idAt ws k;
-    size = firstByteAt ws k + sizeAt ws k - (g .offset + r .size);
-    first = g .offset + r .size;
-    kind = 0;
-    label = 0;
-  }
+  pub piece : Tells ws′ slot (pieceEntry r ws k (g .offset))
+  -- the remainder stays in slot k
+  pub remainder : Tells ws′ k (remainderEntry r ws k (g .offset))
   -- every other slot is as it was
   pub others : (i : ℕ) → i ≢ k → i ≢ slot → Same ws ws′ i
 
@@ -110,11 +118,18 @@ module _ (r : Request) (ws : List ℕ) (t : TableWords ws) (s : Sound ws) (k : �
   whole-words h o =
       let b = takeWhole r z (blockOf ws) in
       let told = one-tells t s z i (wholeOf r (z .chunk)) b h refl refl refl refl in
-      let named : idAt ws k ≡ z .chunk .id = i .id in
+      let same : wholeEntry r ws k ≡ inPlace ws k (wholeOf r (z .chunk)) =
+      (λ j. record {
+        id = i .id j;
+        size = sizeAt ws k;
+        first = firstByteAt ws k;
+        kind = r .kind;
+        label = r .label;
+      }) in
       record {
-        id = sym named;
+        id = sym (i .id);
         next = encode-head b .2;
-        chunk = rw named told;
+        chunk = (told .0, told .1 ∙ sym same);
         others = one-others t s z i (wholeOf r (z .chunk)) b h refl refl refl refl;
       }
 
@@ -128,7 +143,7 @@ module _ (r : Request) (ws : List ℕ) (t : TableWords ws) (s : Sound ws) (k : �
       record {
         empty = none-empty before (newSlot b) (n .from, l) (n .empty (omega (arith, l)));
         below = λ j one low.
-            let u = n .below j one low in
+            let u = n .below j (one .0) low in
             rw (u .2) at (all-at (λ c. Used ws (c .slot)) (b .chunks) all (u .0) (u .1));
       }
 
@@ -147,27 +162,13 @@ module _ (r : Request) (ws : List ℕ) (t : TableWords ws) (s : Sound ws) (k : �
       let right = z .right in
       let tells-c = standing-tells (cut-stands w (record { left = left; chunk = c; right = d ∷ right }) refl) in
       let tells-d = standing-tells (cut-stands w (record { left = c ∷ left; chunk = d; right = right }) refl) in
-      let piece : Entry = record {
-        id = nextId ws;
-        size = o - firstByteAt ws k + r .size;
-        first = firstByteAt ws k;
-        kind = r .kind;
-        label = r .label;
-      } in
-      let remainder : Entry = record {
-        id = idAt ws k;
-        size = firstByteAt ws k + sizeAt ws k - (o + r .size);
-        first = o + r .size;
-        kind = 0;
-        label = 0;
-      } in
       let piece-size : o - firstByteAt ws k + r .size ≡ taken r z = omega (arith, i .first) in
       let rest-size : firstByteAt ws k + sizeAt ws k - (o + r .size) ≡ z .chunk .size - taken r z =
       omega (arith, i .first, i .size) in
       let rest-first : o + r .size ≡ taken r z + total left = omega arith in
-      let same-c : piece ≡ entryOf (total left) c =
+      let same-c : pieceEntry r ws k o ≡ entryOf (total left) c =
       (λ j. record { id = nextId ws; size = piece-size j; first = i .first j; kind = r .kind; label = r .label }) in
-      let same-d : remainder ≡ entryOf (taken r z + total left) d =
+      let same-d : remainderEntry r ws k o ≡ entryOf (taken r z + total left) d =
       (λ j. record { id = i .id j; size = rest-size j; first = rest-first j; kind = 0; label = 0 }) in
       record {
         id = refl;
@@ -175,7 +176,7 @@ module _ (r : Request) (ws : List ℕ) (t : TableWords ws) (s : Sound ws) (k : �
         slot = n;
         lowest = new-lowest l;
         piece = (tells-c .0, tells-c .1 ∙ sym same-c);
-        remainder = subst (λ (j : ℕ). Tells (encode b) j remainder) (i .slot) (tells-d .0, tells-d .1 ∙ sym same-d);
+        remainder = subst (λ (j : ℕ). Tells (encode b) j (remainderEntry r ws k o)) (i .slot) (tells-d .0, tells-d .1 ∙ sym same-d);
         others = λ j f g.
             let m : NoneAt j (d ∷ []) = (λ e. f (sym e ∙ i .slot), tt) in
             let sum : z .chunk .size + 0 ≡ taken r z + (z .chunk .size - taken r z + 0) = omega arith in

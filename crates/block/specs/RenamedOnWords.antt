@@ -12,20 +12,23 @@ use Rattle.table.specs.Layout.{idAt, sizeAt, firstByteAt, kindAt}
 use Rattle.words.specs.Words.{encode, blockOf}
 use Rattle.opening.specs.Outcomes.{outcome-accepted}
 use Rattle.giving_back.specs.GivingBack.{renameOn}
-use Rattle.block.specs.Entries.{Tells, Same}
+use Rattle.block.specs.Entries.{Entry, Tells, Same}
 use Rattle.block.specs.Refused.{LiveSlot}
-use Rattle.block.specs.ReplacedOnWords.{one-tells, one-others}
+use Rattle.block.specs.ReplacedOnWords.{inPlace, one-tells, one-others}
 use Rattle.block.specs.SlotsOnWords.{Standing, table-known, spot-stands}
 
 -- the chunk in slot k has the label, and is otherwise as it was
+abbrev pub labelledEntry : List ℕ → ℕ → ℕ → Entry
+labelledEntry ws k label = record {
+  id = idAt ws k;
+  size = sizeAt ws k;
+  first = firstByteAt ws k;
+  kind = kindAt ws k;
+  label = label;
+}
+
 pub record LabelledAt (ws ws′ : List ℕ) (k label : ℕ) : Type 0 where
-  pub chunk : Tells ws′ k record {
-    id = idAt ws k;
-    size = sizeAt ws k;
-    first = firstByteAt ws k;
-    kind = kindAt ws k;
-    label = label;
-  }
+  pub chunk : Tells ws′ k (labelledEntry ws k label)
   -- every other slot is as it was
   pub others : (i : ℕ) → i ≢ k → Same ws ws′ i
 
@@ -46,10 +49,11 @@ rename-label ws id label e k l =
     let one : z .chunk .slot ≡ k = s .distinct _ k (here .used) (l .0) (here .id ∙ m .named ∙ sym (l .1)) in
     let i = subst (Standing ws z) one here in
     let d = relabel label (z .chunk) in
-    let named : idAt ws k ≡ z .chunk .id = i .id in
-    let kind : kindAt ws k ≡ z .chunk .kind = i .kind in
+    let told = one-tells t s z i d _ w refl refl refl refl in
+    let same : labelledEntry ws k label ≡ inPlace ws k d =
+    (λ j. record { id = i .id j; size = sizeAt ws k; first = firstByteAt ws k; kind = i .kind j; label = label }) in
     record {
-      chunk = rw (named, kind) (one-tells t s z i d _ w refl refl refl refl);
+      chunk = (told .0, told .1 ∙ sym same);
       others = one-others t s z i d _ w refl refl refl refl;
     }) in
     subst (λ (v : List ℕ). LabelledAt ws v k label) (sym (a .2 .3))
