@@ -14,10 +14,10 @@ use Rattle.model.specs.Kept.{release-keeps}
 use Rattle.model.specs.Merging.{NearestLive, freeAs, freed-alone, freed-next, freed-previous, freed-both}
 use Rattle.model.specs.Placing.{withChunks}
 use Rattle.model.specs.Soundness.{Sound as SoundBlock}
-use Rattle.table.specs.Layout.{Slot, slotCount, idAt, sizeAt, firstByteAt, kindAt, nextAt, previousAt}
+use Rattle.table.specs.Layout.{Slot, slotCount, nextId, idAt, sizeAt, firstByteAt, kindAt, nextAt, previousAt}
 use Rattle.words.specs.Words.{encode, blockOf, slotsOf}
 use Rattle.words.specs.Soundness.{Used, Sound}
-use Rattle.words.specs.Rows.{encode-slots}
+use Rattle.words.specs.Rows.{encode-slots, encode-head}
 use Rattle.opening.specs.Looked.{TableWords}
 use Rattle.opening.specs.Outcomes.{outcome-accepted}
 use Rattle.giving_back.specs.GivingBack.{freeOn}
@@ -30,9 +30,15 @@ use Rattle.block.specs.SlotsOnWords.{Standing, table-known, spot-stands}
 abbrev pub FreeSlot : List ℕ → ℕ → Type 0
 FreeSlot ws k = Used ws k × (kindAt ws k ≡ 0)
 
--- a chunk is given back: slot k has a free chunk of so many bytes, under its own id and from its own first byte on
+-- a free chunk of so many bytes, under the id of the chunk in slot k and from its first byte on
+abbrev pub freeEntry : List ℕ → ℕ → ℕ → Entry
+freeEntry ws k size = record { id = idAt ws k; size = size; first = firstByteAt ws k; kind = 0; label = 0 }
+
+-- a chunk is given back: slot k has a free chunk of so many bytes
 pub record FreedAt (ws ws′ : List ℕ) (k size : ℕ) (merged : List ℕ) : Type 0 where
-  pub chunk : Tells ws′ k record { id = idAt ws k; size = size; first = firstByteAt ws k; kind = 0; label = 0 }
+  pub chunk : Tells ws′ k (freeEntry ws k size)
+  -- no id is spent
+  pub next : nextId ws′ ≡ nextId ws
   -- the slots of the chunks that were merged into it are zeroed
   pub zeroed : All (Empty ws′) merged
   -- every other slot is as it was
@@ -61,7 +67,8 @@ none-of i (c ∷ cs) a = (λ e. a .0 (sym e), none-of i cs (a .1))
 
 module _ {ws : List ℕ} (left : List Chunk) (c : Chunk) (cs right : List Chunk)
     (h : TableOf ws (reverseAux left (c ∷ (cs ++ right)))) (b : Block) (w : SoundBlock b) (n : ℕ)
-    (sum : c .size + total cs ≡ n) (e : b .chunks ≡ reverseAux left (freeAs c n ∷ right)) (q : b .slots ≡ slotCount ws) where
+    (sum : c .size + total cs ≡ n) (e : b .chunks ≡ reverseAux left (freeAs c n ∷ right)) (q : b .slots ≡ slotCount ws)
+    (id : b .next ≡ nextId ws) where
   after : TableOf (encode b) (reverseAux left (freeAs c n ∷ right))
   after = let t = table-of b w in record { table = t .table; sound = t .sound; chunks = t .chunks ∙ e }
 
@@ -80,13 +87,12 @@ module _ {ws : List ℕ} (left : List Chunk) (c : Chunk) (cs right : List Chunk)
   freed-at =
       let i = cut-stands h (record { left = left; chunk = c; right = cs ++ right }) refl in
       let told = standing-tells (cut-stands after (record { left = left; chunk = freeAs c n; right = right }) refl) in
-      let same : _≡_ {A = Entry}
-      record { id = idAt ws (c .slot); size = n; first = firstByteAt ws (c .slot); kind = 0; label = 0 }
-      (entryOf (total left) (freeAs c n)) =
+      let same : freeEntry ws (c .slot) n ≡ entryOf (total left) (freeAs c n) =
       (λ j. record { id = i .id j; size = n; first = i .first j; kind = 0; label = 0 }) in
       let total-same : c .size + total cs ≡ n + 0 = omega (arith, sum) in
       record {
         chunk = (told .0, told .1 ∙ sym same);
+        next = encode-head b .2 ∙ id;
         zeroed = merged-empty cs (apart (c ∷ left) cs right h);
         others = λ j f g.
             rest-same left (c ∷ cs) (freeAs c n ∷ []) right h after total-same slots-same j
@@ -142,7 +148,7 @@ module _ (ws : List ℕ) (t : TableWords ws) (s : Sound ws) (k : ℕ) where
   alone-words left c right i w hl hr =
       named (i .slot) (sym (i .size)) refl
       (freed-at left c [] right (table-here i) (back ws (spot left c right)) w (c .size) (omega arith)
-      (freed-alone left c right hl hr) refl)
+      (freed-alone left c right hl hr) refl refl)
 
   -- the one after is
   next-words : (left : List Chunk) (c : Chunk) (right : List Chunk) → Standing ws (spot left c right) k
@@ -154,19 +160,20 @@ module _ (ws : List ℕ) (t : TableWords ws) (s : Sound ws) (k : ℕ) where
       let j = next-stands left c n right i in
       named (i .slot) (omega (arith, i .size, j .size)) (ap (λ (m : ℕ). m ∷ []) (j .slot))
       (freed-at left c (n ∷ []) right (table-here i) (back ws (spot left c (n ∷ right))) w (c .size + n .size) (omega arith)
-      (freed-next left c right n hl (sym (j .kind) ∙ u .1)) refl)
+      (freed-next left c right n hl (sym (j .kind) ∙ u .1)) refl refl)
 
   -- the one before is
   previous-words : (left : List Chunk) (c : Chunk) (right : List Chunk) → Standing ws (spot left c right) k
       → SoundBlock (back ws (spot left c right)) → FreeSlot ws (previousAt ws k) → NearestLive right
-      → FreedAt ws (encode (back ws (spot left c right))) (previousAt ws k) (sizeAt ws (previousAt ws k) + sizeAt ws k) (k ∷ [])
+      → FreedAt ws (encode (back ws (spot left c right))) (previousAt ws k) (sizeAt ws (previousAt ws k) + sizeAt ws k)
+      (k ∷ [])
   unfolding blockOf
   previous-words [] c right i w u hr = absurd (omega (arith, i .previous, u .0 .0))
   previous-words (p ∷ left) c right i w u hr =
       let j = previous-stands left p c right i in
       named (j .slot) (omega (arith, i .size, j .size)) (ap (λ (m : ℕ). m ∷ []) (i .slot))
       (freed-at left p (c ∷ []) right (table-here i) (back ws (spot (p ∷ left) c right)) w (p .size + c .size) (omega arith)
-      (freed-previous left c right p (sym (j .kind) ∙ u .1) hr) refl)
+      (freed-previous left c right p (sym (j .kind) ∙ u .1) hr) refl refl)
 
   -- both are
   both-words : (left : List Chunk) (c : Chunk) (right : List Chunk) → Standing ws (spot left c right) k
@@ -183,7 +190,7 @@ module _ (ws : List ℕ) (t : TableWords ws) (s : Sound ws) (k : ℕ) where
       named (j .slot) (omega (arith, i .size, j .size, m .size)) slots
       (freed-at left p (c ∷ n ∷ []) right (table-here i) (back ws (spot (p ∷ left) c (n ∷ right))) w
       (p .size + (c .size + n .size)) (omega arith)
-      (freed-both left c right p n (sym (j .kind) ∙ u .1) (sym (m .kind) ∙ v .1)) refl)
+      (freed-both left c right p n (sym (j .kind) ∙ u .1) (sym (m .kind) ∙ v .1)) refl refl)
 
 -- ---- the statements
 

@@ -176,7 +176,9 @@ module _ (r : Request) (ws : List ℕ) (t : TableWords ws) (s : Sound ws) (k : �
         slot = n;
         lowest = new-lowest l;
         piece = (tells-c .0, tells-c .1 ∙ sym same-c);
-        remainder = subst (λ (j : ℕ). Tells (encode b) j (remainderEntry r ws k o)) (i .slot) (tells-d .0, tells-d .1 ∙ sym same-d);
+        remainder =
+            subst (λ (j : ℕ). Tells (encode b) j (remainderEntry r ws k o)) (i .slot)
+            (tells-d .0, tells-d .1 ∙ sym same-d);
         others = λ j f g.
             let m : NoneAt j (d ∷ []) = (λ e. f (sym e ∙ i .slot), tt) in
             let sum : z .chunk .size + 0 ≡ taken r z + (z .chunk .size - taken r z + 0) = omega arith in

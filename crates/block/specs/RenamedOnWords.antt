@@ -8,8 +8,9 @@ use Rattle.model.specs.Effects.{renamed}
 use Rattle.model.specs.GivingBack.{relabel, rename}
 use Rattle.model.specs.Kept.{rename-keeps}
 use Rattle.model.specs.Soundness.{Sound as SoundBlock}
-use Rattle.table.specs.Layout.{idAt, sizeAt, firstByteAt, kindAt}
+use Rattle.table.specs.Layout.{nextId, idAt, sizeAt, firstByteAt, kindAt}
 use Rattle.words.specs.Words.{encode, blockOf}
+use Rattle.words.specs.Rows.{encode-head}
 use Rattle.opening.specs.Outcomes.{outcome-accepted}
 use Rattle.giving_back.specs.GivingBack.{renameOn}
 use Rattle.block.specs.Entries.{Entry, Tells, Same}
@@ -29,6 +30,8 @@ labelledEntry ws k label = record {
 
 pub record LabelledAt (ws ws′ : List ℕ) (k label : ℕ) : Type 0 where
   pub chunk : Tells ws′ k (labelledEntry ws k label)
+  -- no id is spent
+  pub next : nextId ws′ ≡ nextId ws
   -- every other slot is as it was
   pub others : (i : ℕ) → i ≢ k → Same ws ws′ i
 
@@ -54,6 +57,7 @@ rename-label ws id label e k l =
     (λ j. record { id = i .id j; size = sizeAt ws k; first = firstByteAt ws k; kind = i .kind j; label = label }) in
     record {
       chunk = (told .0, told .1 ∙ sym same);
+      next = encode-head _ .2;
       others = one-others t s z i d _ w refl refl refl refl;
     }) in
     subst (λ (v : List ℕ). LabelledAt ws v k label) (sym (a .2 .3))
