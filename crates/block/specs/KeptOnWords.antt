@@ -8,17 +8,17 @@ use Rattle.laws.specs.Reply.{Reply, accepted, refused}
 use Rattle.model.specs.Block.{Block, allocated}
 use Rattle.model.specs.Effects.{live-kind}
 use Rattle.model.specs.GivingBack.{release, rename}
-use Rattle.model.specs.Heads.{place-heads, release-heads, rename-heads}
+use Rattle.model.specs.Heads.{SameHeads, place-heads, release-heads, rename-heads}
 use Rattle.model.specs.Kept.{place-keeps, release-keeps, rename-keeps}
 use Rattle.model.specs.Placing.{Request, Placed, takenAt, place}
 use Rattle.model.specs.Requests.{WellFormed}
 use Rattle.model.specs.Room.{Taken, put-best}
 use Rattle.model.specs.Soundness.{Sound as SoundBlock}
 use Rattle.model.specs.Totals.{place-rises, release-allocated, rename-allocated}
-use Rattle.table.specs.Layout.{wordCount, table-shape, sizeAt, firstByteAt}
+use Rattle.table.specs.Layout.{wordCount, table-shape, blockSize, nextId, sizeAt, firstByteAt}
 use Rattle.words.specs.Words.{encode, blockOf, decode}
 use Rattle.words.specs.Soundness.{Sound}
-use Rattle.words.specs.Rows.{encode-length}
+use Rattle.words.specs.Rows.{encode-length, encode-head}
 use Rattle.words.specs.Written.{decode-encode}
 use Rattle.words.specs.Checked.{decode-exactly}
 use Rattle.opening.specs.Look.{onTable}
@@ -103,6 +103,44 @@ module _ (id label : ℕ) where
       → TableWords (renameOn ws id label .1) × Sound (renameOn ws id label .1)
   unfolding renameOn
   rename-sound ws t s = kept-sound (λ b. tt) (λ b. b) (rename id label) rename-kept ws t s
+
+-- ---- the block size and the next id
+
+-- An allocate keeps the block size, whatever it answers.
+pub allocate-block-size : (ws : List ℕ) (r : Request) → blockSize (allocateOn ws r .1) ≡ blockSize ws
+unfolding allocateOn blockOf
+allocate-block-size ws r = on (onTable (place r) (decode ws)) refl
+  where
+    on : (a : Reply Placed) → onTable (place r) (decode ws) ≡ a
+        → blockSize (leaves given (λ p. p .block) ws a .1) ≡ blockSize ws
+    on (refused n) e = refl
+    on (accepted p) e =
+        let c = call-accepted (place r) ws p e in
+        encode-head (p .block) .0 ∙ place-heads r (blockOf ws) (table-known ws (c .0) (c .1) .block) p (c .2) .size
+
+-- the same of a call that keeps both
+module _ (f : Block → Reply Block) (keeps : (b x : Block) → f b ≡ accepted x → SameHeads b x) (ws : List ℕ) where
+  head-kept : (a : Reply Block) → onTable f (decode ws) ≡ a
+      → (blockSize (changes ws a .1) ≡ blockSize ws) × (nextId (changes ws a .1) ≡ nextId ws)
+  unfolding blockOf
+  head-kept (refused n) e = (refl, refl)
+  head-kept (accepted x) e =
+      let k = keeps (blockOf ws) x (call-accepted f ws x e .2) in
+      let h = encode-head x in
+      (h .0 ∙ k .size, h .2 ∙ k .next)
+
+-- A free keeps it, and the next id.
+pub free-head : (ws : List ℕ) (id : ℕ)
+    → (blockSize (freeOn ws id .1) ≡ blockSize ws) × (nextId (freeOn ws id .1) ≡ nextId ws)
+unfolding freeOn
+free-head ws id = head-kept (release id) (release-heads id) ws (onTable (release id) (decode ws)) refl
+
+-- So does a rename.
+pub rename-head : (ws : List ℕ) (id label : ℕ)
+    → (blockSize (renameOn ws id label .1) ≡ blockSize ws) × (nextId (renameOn ws id label .1) ≡ nextId ws)
+unfolding renameOn
+rename-head ws id label =
+    head-kept (rename id label) (rename-heads id label) ws (onTable (rename id label) (decode ws)) refl
 
 -- ---- `allocated`
 

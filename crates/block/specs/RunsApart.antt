@@ -1,15 +1,16 @@
 -- Demand 3, its second half, on words: after any calls the live ranges are apart, and are the live slots'. Assumes nothing.
-use Prim.Native.Nat.{ℕ, _+_, _≤_}
+use Prim.Native.Nat.{ℕ, _+_, _*_, _/_, _≤_, _<_}
 use native.Mathlib.Omega.{arith}
 use mathlib.Core.Bool.{true}
 use mathlib.Core.List.{List, [], _∷_, List·Memᴰ}
-use mathlib.Core.Logic.{_↔_, _≢_}
+use mathlib.Core.Logic.{_↔_, _≢_, ⊎-elim}
 use mathlib.Core.Path.{_≡_, refl, sym, ap, subst, _∙_}
 use lib.ListN.{length}
-use Rattle.laws.specs.Lists.{All, Pairwise}
+use Rattle.laws.specs.Lists.{All, Pairwise, pair-at}
 use Rattle.laws.specs.Powers.{Pow2}
 use Rattle.laws.specs.Reply.{Reply, accepted, refused, not-refused}
-use Rattle.model.specs.Apart.{Coarse, AllCoarse, Apart, Stands, ranges-apart, ranges-within, live-chunk, live-range}
+use Rattle.laws.specs.Rounding.{alignDown, down-quotient}
+use Rattle.model.specs.Apart.{Coarse, AllCoarse, Apart, Stands, each-byte, ranges-apart, ranges-within, live-chunk, live-range}
 use Rattle.model.specs.Block.{Block, Spot}
 use Rattle.model.specs.Choose.{Cut}
 use Rattle.model.specs.Placing.{Placed, place}
@@ -70,7 +71,8 @@ all-coarse-written G (c ∷ cs) s h =
     let one = coarse-written G c (s .block) h in
     let many = all-coarse-written G cs (step c s) (step-kept s h c .sound) in
     let e = step-written s h c in
-    (λ k. (one .0 (k .0), many .0 (rw e at (k .1))), λ k. (one .1 (k .0), rw e (many .1 (k .1))))
+    let A = AllCoarseOn G cs in
+    (λ k. (one .0 (k .0), many .0 (subst A e (k .1))), λ k. (one .1 (k .0), subst A (sym e) (many .1 (k .1))))
 
 -- ---- slots and ranges
 
@@ -119,6 +121,34 @@ pub record LiveSlots (s : WordsState) : Type 0 where
   pub range : (k : ℕ) → Used (s .words) k → kindAt (s .words) k ≢ 0
       → (x : Range) × List·Memᴰ x (s .live) × StandsIn (s .words) k x
 
+-- ---- ranges that are apart, in plain numbers
+
+-- bytes on one page have one start of it
+one-page : (G p q : ℕ) → p / G ≡ q / G → alignDown p G ≡ alignDown q G
+one-page G p q e = down-quotient p G ∙ ap (λ (n : ℕ). n * G) e ∙ sym (down-quotient q G)
+
+-- the ids of two ranges differ; byte p of the one is not byte q of the other; and where the kinds differ these bytes lie
+-- on different pages of G bytes
+abbrev pub BytesApart : ℕ → Range → Range → Type 0
+BytesApart G x y =
+    (x .id ≢ y .id) × ((p q : ℕ) → p < x .size → q < y .size
+    → (x .offset + p ≢ y .offset + q) × (x .kind ≢ y .kind → (x .offset + p) / G ≢ (y .offset + q) / G))
+
+bytes-apart : (G : ℕ) (x y : Range) → Apart G x y → BytesApart G x y
+bytes-apart G x y a = (
+  a .ids,
+  λ p q l m. (
+    λ e. a .bytes (y .offset + q) (rw (← e) (each-byte x p l)) (each-byte y q m),
+    λ d e. a .pages d (x .offset + p) (y .offset + q) (each-byte x p l) (each-byte y q m) (one-page G _ _ e),
+  ),
+)
+
+-- the other way round
+bytes-other : (G : ℕ) (x y : Range) → Apart G y x → BytesApart G x y
+bytes-other G x y a =
+    let b = bytes-apart G y x a in
+    (λ e. b .0 (sym e), λ p q l m. let c = b .1 q p m l in (λ e. c .0 (sym e), λ d e. c .1 (λ f. d (sym f)) (sym e)))
+
 -- ---- the demand
 
 module _ (ws : List ℕ) (size : ℕ) (ok : newOn ws size .0 ≡ accepted tt) (cs : List Call) where
@@ -147,6 +177,14 @@ module _ (ws : List ℕ) (size : ℕ) (ok : newOn ws size .0 ≡ accepted tt) (c
       run-ends (λ s. Pairwise (Apart G) (s .live))
       (ranges-apart size (slotCount ws) (s .size .0) (s .size .1) (s .slots .0) (s .slots .1) cs G pg
       (words-coarse G .0 h))
+
+  -- The same in plain numbers, of any two of them.
+  pub words-bytes : (G : ℕ) → Pow2 G → AllCoarseOn G cs (beginOn ws size) → (x y : Range)
+      → List·Memᴰ x (runOn cs (beginOn ws size) .live) → List·Memᴰ y (runOn cs (beginOn ws size) .live) → (x ≡ y → ⊥)
+      → BytesApart G x y
+  words-bytes G pg h x y m k n =
+      ⊎-elim (λ e. absurd (n e)) (⊎-elim (λ a. bytes-apart G x y a) (λ a. bytes-other G x y a))
+      (pair-at (Apart G) (runOn cs (beginOn ws size) .live) (words-apart G pg h) x y m k)
 
   -- Whatever the granularities, every such range lies within the block.
   pub words-within : All (λ x. x .offset + x .size ≤ size) (runOn cs (beginOn ws size) .live)

@@ -11,7 +11,7 @@ use Rattle.model.specs.Block.{Chunk, Spot, first}
 use Rattle.model.specs.Choose.{Cut, cut-of-spot, spot-of-cut, all-spots}
 use Rattle.model.specs.NoneLive.{NoneLive}
 use Rattle.model.specs.Slots.{Used as UsedBy}
-use Rattle.table.specs.Layout.{Slot, idAt, sizeAt, firstByteAt, kindAt, nextAt, previousAt}
+use Rattle.table.specs.Layout.{Slot, idAt, sizeAt, firstByteAt, kindAt, labelAt, nextAt, previousAt}
 use Rattle.words.specs.Words.{slotOf, blockOf, sound}
 use Rattle.words.specs.Soundness.{Used, Sound}
 use Rattle.words.specs.Written.{Known, known}
@@ -28,6 +28,7 @@ pub record Standing (ws : List ℕ) (z : Spot) (k : ℕ) : Type 0 where
   pub size : sizeAt ws k ≡ z .chunk .size
   pub first : firstByteAt ws k ≡ first z
   pub kind : kindAt ws k ≡ z .chunk .kind
+  pub label : labelAt ws k ≡ z .chunk .label
   pub next : nextAt ws k ≡ slotOf (z .right)
   pub previous : previousAt ws k ≡ slotOf (z .left)
 
@@ -50,6 +51,7 @@ module _ (ws : List ℕ) (t : TableWords ws) (s : Sound ws) where
         size = r .size;
         first = r .begins;
         kind = r .kind;
+        label = r .label;
         next = r .next;
         previous = r .previous;
       }
