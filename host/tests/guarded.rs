@@ -233,12 +233,12 @@ fn half_a_million_calls_of_every_function() {
         made.add(part.join().expect("each call answers as it does elsewhere"));
     }
     println!("{made:?}");
-    let calls: u64 = made.functions.values().sum();
-    assert!(calls >= 500_000, "{calls} calls");
-    assert!(2 * made.only_read > calls, "{} of {calls}", made.only_read);
     let called = made.functions.keys();
     let names: BTreeSet<String> = called.map(|name| format!("lunkaseyo_{name}")).collect();
     assert_eq!(names, declared::names_in("lunkaseyo.h"));
+    let calls: u64 = made.functions.values().sum();
+    assert!(calls >= 500_000, "{calls} calls");
+    assert!(2 * made.only_read > calls, "{} of {calls}", made.only_read);
 }
 
 #[test]
