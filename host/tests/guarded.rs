@@ -1,31 +1,33 @@
 //! No byte outside of what is lent is read or written: every slice and out-value lies flush against a page
 //! that nobody may touch, once at its front and once at its back. Words that are lent to be read, those of a
 //! call on a table that is refused, and the buffer of a text that is, lie in pages that may only be read. A
-//! wrong access ends the process.
+//! wrong access ends the process. What was called is counted; `--nocapture` shows the counts.
 
+mod declared;
 mod guard;
 
-use std::collections::BTreeSet;
+use std::collections::{BTreeMap, BTreeSet};
 use std::os::unix::process::ExitStatusExt;
+use std::thread;
 
-use guard::calls::{self, Call, Use};
+use guard::calls::{self, called, Call, Called, Use};
 use guard::memory::{Access, Fenced, Side};
 use guard::tables;
 use guard::touch::Touch;
-use lunkaseyo::{ffi, Block};
+use lunkaseyo::Block;
 
 /// What out-values hold before a call.
 const SPOILT: u64 = 0xA5A5_A5A5_A5A5_A5A5;
 
-/// What a call answers: its number, the words after it, and its out-values.
-type Answer = (u64, Vec<u64>, [Vec<u64>; 2]);
+/// What a call answers: its function and number, the words after it, and its out-values.
+type Answer = (Called, Vec<u64>, [Vec<u64>; 2]);
 
 fn on_plain_memory(call: &Call, words: &[u64]) -> Answer {
     let mut words = words.to_vec();
     let mut outs = call.outs.map(|count| vec![SPOILT; count]);
     let [first, second] = &mut outs;
-    let number = (call.make)(&mut words, first, second);
-    (number, words, outs)
+    let called = (call.make)(&mut words, first, second);
+    (called, words, outs)
 }
 
 /// What a call that answers this number may do with its words.
@@ -37,11 +39,44 @@ fn access(of_words: Use, number: u64) -> Access {
     }
 }
 
-/// Fenced memory for one call at a time, and the numbers that were answered in it.
+/// What was called in fenced memory.
+#[derive(Debug, Default)]
+struct Made {
+    /// How often, by the function.
+    functions: BTreeMap<&'static str, u64>,
+    /// How often with words, or a buffer, that could only be read.
+    only_read: u64,
+    /// The numbers that were answered.
+    numbers: BTreeSet<u64>,
+}
+
+impl Made {
+    fn count(&mut self, (function, number): Called, access: Access) {
+        *self.functions.entry(function).or_default() += 1;
+        self.only_read += u64::from(access == Access::Read);
+        self.numbers.insert(number);
+    }
+
+    fn add(&mut self, other: Self) {
+        for (function, count) in other.functions {
+            *self.functions.entry(function).or_default() += count;
+        }
+        self.only_read += other.only_read;
+        self.numbers.extend(other.numbers);
+    }
+
+    /// Fails unless just these numbers were answered.
+    fn answered(self, numbers: impl IntoIterator<Item = u64>) -> Self {
+        assert_eq!(self.numbers, numbers.into_iter().collect());
+        self
+    }
+}
+
+/// Fenced memory for one call at a time, and what was called in it.
 struct Guard {
     words: Fenced,
     outs: [Fenced; 2],
-    numbers: BTreeSet<u64>,
+    made: Made,
 }
 
 impl Guard {
@@ -49,7 +84,7 @@ impl Guard {
         Self {
             words: Fenced::new(words * 8),
             outs: [Fenced::new(40), Fenced::new(40)],
-            numbers: BTreeSet::new(),
+            made: Made::default(),
         }
     }
 
@@ -59,8 +94,9 @@ impl Guard {
         let spoilt = call.outs.map(|count| vec![SPOILT; count]);
         let first = first.lend(&spoilt[0], side, Access::ReadWrite);
         let second = second.lend(&spoilt[1], side, Access::ReadWrite);
-        let number = (call.make)(words, first, second);
-        (number, words.to_vec(), [first.to_vec(), second.to_vec()])
+        let called = (call.make)(words, first, second);
+        self.made.count(called, access);
+        (called, words.to_vec(), [first.to_vec(), second.to_vec()])
     }
 
     /// Makes each call on these words on both sides. One that is to write no word gets pages that may only be
@@ -68,19 +104,14 @@ impl Guard {
     fn make(&mut self, calls: &[Call], words: &[u64]) {
         for call in calls {
             let expected = on_plain_memory(call, words);
-            let access = access(call.of_words, expected.0);
+            let (_, number) = expected.0;
+            let access = access(call.of_words, number);
             for side in Side::BOTH {
                 let answer = self.answer(call, words, side, access);
                 let name = &call.name;
                 assert_eq!(answer, expected, "{name} on {words:?} at the {side:?}");
             }
-            self.numbers.insert(expected.0);
         }
-    }
-
-    /// Fails unless just these numbers were answered.
-    fn answered(&self, numbers: impl IntoIterator<Item = u64>) {
-        assert_eq!(self.numbers, numbers.into_iter().collect());
     }
 }
 
@@ -101,8 +132,7 @@ fn small_tables() -> [Vec<u64>; 4] {
     ]
 }
 
-#[test]
-fn sound_tables() {
+fn sound_tables() -> Made {
     let mut guard = Guard::new(Block::words(512));
     for table in small_tables().into_iter().chain([
         tables::without_ids(2),
@@ -114,11 +144,10 @@ fn sound_tables() {
         guard.make(&calls::on_a_table(&tables::ids(&table)), &table);
     }
     // not 1 and 2, for none is too short or unsound
-    guard.answered([0, 3, 4, 5, 6, 7, 8, 9, 10, 13]);
+    guard.made.answered([0, 3, 4, 5, 6, 7, 8, 9, 10, 13])
 }
 
-#[test]
-fn unsound_tables() {
+fn unsound_tables() -> Made {
     let mut guard = Guard::new(Block::words(8));
     for table in small_tables() {
         let calls = calls::on_a_table(&tables::ids(&table));
@@ -126,11 +155,10 @@ fn unsound_tables() {
             guard.make(&calls, &damaged);
         }
     }
-    guard.answered([0, 2, 3, 4, 5, 6, 7, 8, 9, 10, 13]);
+    guard.made.answered([0, 2, 3, 4, 5, 6, 7, 8, 9, 10, 13])
 }
 
-#[test]
-fn truncated_tables() {
+fn truncated_tables() -> Made {
     let mut guard = Guard::new(Block::words(513));
     let large = [tables::after_many_calls(512), vec![0; Block::words(513)]];
     for table in small_tables().into_iter().chain(large) {
@@ -139,11 +167,10 @@ fn truncated_tables() {
             guard.make(&calls, &table[..length]);
         }
     }
-    guard.answered([0, 1, 2, 3, 4, 5, 6, 7, 9, 10, 13]);
+    guard.made.answered([0, 1, 2, 3, 4, 5, 6, 7, 9, 10, 13])
 }
 
-#[test]
-fn records() {
+fn records() -> Made {
     let mut guard = Guard::new(3);
     let calls = calls::on_a_record();
     let words = [0, 1, 4095, 4096, 1 << 63, u64::MAX];
@@ -152,11 +179,10 @@ fn records() {
             guard.make(&calls, &[size, allocated, 5]);
         }
     }
-    guard.answered([0, 2, 3, 4, 5, 6, 11, 12, 13, 18]);
+    guard.made.answered([0, 2, 3, 4, 5, 6, 11, 12, 13, 18])
 }
 
-#[test]
-fn sizes() {
+fn sizes() -> Made {
     let mut guard = Guard::new(0);
     let sizes = [0, 5 << 20, 8 << 20, 256 << 20, u64::MAX];
     for device in sizes {
@@ -164,28 +190,55 @@ fn sizes() {
             guard.make(&calls::with_sizes([device, device, host, host]), &[]);
         }
     }
-    guard.answered([0, 14]);
+    guard.made.answered([0, 14])
 }
 
-#[test]
-fn texts() {
+fn texts() -> Made {
     let (mut bytes, mut written) = (Fenced::new(12), Fenced::new(8));
-    let mut numbers = BTreeSet::new();
+    let mut made = Made::default();
     for amount in [0, 10, 1023, 1152, 1048575, (1 << 50) - 1, 1 << 50, u64::MAX] {
         for length in 0..=12 {
             let mut expected = ([b'#'; 12], SPOILT);
-            let number = ffi::fmt_bytes(amount, &mut expected.0[..length], &mut expected.1);
+            let (_, number) = called!(fmt_bytes(
+                amount,
+                &mut expected.0[..length],
+                &mut expected.1
+            ));
             let access = access(Use::WritesIfAccepted, number);
             for side in Side::BOTH {
                 let buf = bytes.lend(&vec![b'#'; length], side, access);
                 let out = written.lend(&[SPOILT], side, Access::ReadWrite);
-                assert_eq!(ffi::fmt_bytes(amount, buf, &mut out[0]), number);
+                let called = called!(fmt_bytes(amount, buf, &mut out[0]));
+                made.count(called, access);
+                assert_eq!(called.1, number);
                 assert_eq!((&*buf, out[0]), (&expected.0[..length], expected.1));
             }
-            numbers.insert(number);
         }
     }
-    assert_eq!(numbers, BTreeSet::from([0, 15, 16]));
+    made.answered([0, 15, 16])
+}
+
+#[test]
+fn half_a_million_calls_of_every_function() {
+    let parts = [
+        sound_tables,
+        unsound_tables,
+        truncated_tables,
+        records,
+        sizes,
+        texts,
+    ];
+    let mut made = Made::default();
+    for part in parts.map(thread::spawn) {
+        made.add(part.join().expect("each call answers as it does elsewhere"));
+    }
+    println!("{made:?}");
+    let called = made.functions.keys();
+    let names: BTreeSet<String> = called.map(|name| format!("lunkaseyo_{name}")).collect();
+    assert_eq!(names, declared::names_in("lunkaseyo.h"));
+    let calls: u64 = made.functions.values().sum();
+    assert!(calls >= 500_000, "{calls} calls");
+    assert!(2 * made.only_read > calls, "{} of {calls}", made.only_read);
 }
 
 #[test]

@@ -138,6 +138,8 @@ fn any_tables() {
     assert!(sound.calls >= 300_000);
     let sorts = Sort::all().map(|sort| sort.name);
     sound.sorts.assert_each(sorts, 100);
+    let damaged: u64 = Damage::all().map(|damage| damages.of(&damage.name)).sum();
+    assert!(damaged >= 900_000);
     damages.assert_each(Damage::all().map(|damage| damage.name), 1_000);
     for call in ["allocate", "allocate with faults", "free", "rename"] {
         numbers.assert_each([(call, 1), (call, 2)], 5_000);

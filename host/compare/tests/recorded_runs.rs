@@ -29,6 +29,7 @@ fn the_rules_are_shown() {
         tally.count(step);
     }
     println!("{tally}");
+    assert_eq!(tally.calls, 362);
     let lists = [Sort::PLACED, Sort::ASKED, Sort::LIVE, Sort::DEAD];
     let names = lists.into_iter().flatten().map(|sort| sort.name);
     let (rare, shown): (Vec<_>, Vec<_>) = names.partition(|name| RARE.contains(name));

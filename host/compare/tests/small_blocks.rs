@@ -74,5 +74,5 @@ fn every_call_on_small_blocks() {
         *sum += tables
     });
     println!("{tables} tables");
-    assert!(tables >= 10_000);
+    assert_eq!(tables, 10_680);
 }

@@ -13,7 +13,38 @@ pub enum Use {
     Writes,
 }
 
-type Make = Box<dyn Fn(&mut [u64], &mut [u64], &mut [u64]) -> u64>;
+/// The function that was called, and the number that it answered.
+pub type Called = (&'static str, u64);
+
+type Make = Box<dyn Fn(&mut [u64], &mut [u64], &mut [u64]) -> Called>;
+
+/// What a function of the archive answers: a number, or nothing, which counts as 0.
+pub trait Answer {
+    fn number(self) -> u64;
+}
+
+impl Answer for u64 {
+    fn number(self) -> u64 {
+        self
+    }
+}
+
+impl Answer for () {
+    fn number(self) -> u64 {
+        0
+    }
+}
+
+/// Calls a function of `ffi`, and gives its name with the number.
+macro_rules! called {
+    ($function:ident($($argument:expr),*)) => {
+        (
+            stringify!($function),
+            $crate::guard::calls::Answer::number(lunkaseyo::ffi::$function($($argument),*)),
+        )
+    };
+}
+pub(crate) use called;
 
 /// A call on a table, on a record or on nothing lent, and its two out-values.
 pub struct Call {
@@ -23,7 +54,7 @@ pub struct Call {
     pub outs: [usize; 2],
     /// What it does to the words.
     pub of_words: Use,
-    /// Makes it, and gives the number that is answered.
+    /// Makes it, and says what was called and answered.
     pub make: Make,
 }
 
@@ -31,7 +62,7 @@ impl Call {
     fn new(
         name: String,
         outs: [usize; 2],
-        make: impl Fn(&mut [u64], &mut [u64], &mut [u64]) -> u64 + 'static,
+        make: impl Fn(&mut [u64], &mut [u64], &mut [u64]) -> Called + 'static,
     ) -> Self {
         Self {
             name,
@@ -76,23 +107,25 @@ pub fn on_a_table(ids: &[u64]) -> Vec<Call> {
     let mut calls = questions_on_a_table();
     calls.extend(SIZES.map(|size| {
         let name = format!("block_new {size}");
-        Call::new(name, [0, 0], move |words, _, _| ffi::block_new(words, size))
+        Call::new(name, [0, 0], move |words, _, _| {
+            called!(block_new(words, size))
+        })
     }));
     calls.extend(REQUESTS.map(|request| {
         let name = format!("block_allocate {request:?}");
         Call::new(name, [1, 1], move |words, offset, id| {
-            ffi::block_allocate(words, request, one(offset), one(id))
+            called!(block_allocate(words, request, one(offset), one(id)))
         })
     }));
     for &id in [0, u64::MAX].iter().chain(ids) {
         calls.push(Call::new(
             format!("block_free {id}"),
             [0, 0],
-            move |words, _, _| ffi::block_free(words, id),
+            move |words, _, _| called!(block_free(words, id)),
         ));
         let name = format!("block_rename_allocation {id}");
         calls.push(Call::new(name, [0, 0], move |words, _, _| {
-            ffi::block_rename_allocation(words, id, 9)
+            called!(block_rename_allocation(words, id, 9))
         }));
     }
     calls
@@ -101,13 +134,13 @@ pub fn on_a_table(ids: &[u64]) -> Vec<Call> {
 fn questions_on_a_table() -> Vec<Call> {
     let mut calls = vec![
         Call::new("block_allocated".into(), [1, 0], |words, out, _| {
-            ffi::block_allocated(words, one(out))
+            called!(block_allocated(words, one(out)))
         }),
         Call::new("block_is_empty".into(), [1, 0], |words, out, _| {
-            ffi::block_is_empty(words, one(out))
+            called!(block_is_empty(words, one(out)))
         }),
         Call::new("leaks_start".into(), [1, 0], |words, place, _| {
-            ffi::leaks_start(words, one(place))
+            called!(leaks_start(words, one(place)))
         }),
     ];
     calls.extend([0, 100, u64::MAX].map(|from| {
@@ -116,7 +149,7 @@ fn questions_on_a_table() -> Vec<Call> {
             [1, 5],
             move |words, place, leak| {
                 place[0] = from;
-                ffi::leaks_step(words, one(place), all(leak))
+                called!(leaks_step(words, one(place), all(leak)))
             },
         )
     }));
@@ -130,7 +163,7 @@ pub fn on_a_record() -> Vec<Call> {
     calls.extend(SIZES.map(|size| {
         let name = format!("dedicated_new {size}");
         Call::new(name, [0, 0], move |record, _, _| {
-            ffi::dedicated_new(all(record), size)
+            called!(dedicated_new(all(record), size))
         })
     }));
     // these take the record out, and put it back in any case
@@ -144,18 +177,23 @@ fn changes_of_a_record() -> Vec<Call> {
         .map(|request| {
             let name = format!("dedicated_allocate {request:?}");
             Call::new(name, [1, 1], move |record, offset, id| {
-                ffi::dedicated_allocate(all(record), request, one(offset), one(id))
+                called!(dedicated_allocate(
+                    all(record),
+                    request,
+                    one(offset),
+                    one(id)
+                ))
             })
         })
         .into();
     for id in [0, 1, 2] {
         let name = format!("dedicated_free {id}");
         calls.push(Call::new(name, [0, 0], move |record, _, _| {
-            ffi::dedicated_free(all(record), id)
+            called!(dedicated_free(all(record), id))
         }));
         let name = format!("dedicated_rename_allocation {id}");
         calls.push(Call::new(name, [0, 0], move |record, _, _| {
-            ffi::dedicated_rename_allocation(all(record), id, 9)
+            called!(dedicated_rename_allocation(all(record), id, 9))
         }));
     }
     calls
@@ -164,15 +202,15 @@ fn changes_of_a_record() -> Vec<Call> {
 fn questions_on_a_record() -> Vec<Call> {
     let calls = [
         Call::new("dedicated_allocated".into(), [1, 0], |record, out, _| {
-            ffi::dedicated_allocated(all(record), one(out))
+            called!(dedicated_allocated(all(record), one(out)))
         }),
         Call::new("dedicated_is_empty".into(), [1, 0], |record, out, _| {
-            ffi::dedicated_is_empty(all(record), one(out))
+            called!(dedicated_is_empty(all(record), one(out)))
         }),
         Call::new(
             "dedicated_report_allocations".into(),
             [3, 0],
-            |record, out, _| ffi::dedicated_report_allocations(all(record), all(out)),
+            |record, out, _| called!(dedicated_report_allocations(all(record), all(out))),
         ),
     ];
     calls.map(|call| call.with(Use::Reads)).into()
@@ -182,27 +220,31 @@ fn questions_on_a_record() -> Vec<Call> {
 pub fn with_sizes(sizes: ffi::Words) -> Vec<Call> {
     vec![
         Call::new(format!("sizes_new {sizes:?}"), [4, 0], move |_, out, _| {
-            ffi::sizes_new(sizes[0], sizes[2], all(out));
-            0
+            called!(sizes_new(sizes[0], sizes[2], all(out)))
         }),
         Call::new("sizes_default".into(), [4, 0], |_, out, _| {
-            ffi::sizes_default(all(out));
-            0
+            called!(sizes_default(all(out)))
         }),
         Call::new(
             format!("with_max_device {sizes:?}"),
             [4, 0],
-            move |_, out, _| ffi::sizes_with_max_device_memblock_size(sizes, 32 << 20, all(out)),
+            move |_, out, _| {
+                called!(sizes_with_max_device_memblock_size(
+                    sizes,
+                    32 << 20,
+                    all(out)
+                ))
+            },
         ),
         Call::new(
             format!("with_max_host {sizes:?}"),
             [4, 0],
-            move |_, out, _| ffi::sizes_with_max_host_memblock_size(sizes, 32 << 20, all(out)),
+            move |_, out, _| called!(sizes_with_max_host_memblock_size(sizes, 32 << 20, all(out))),
         ),
         Call::new(
             format!("get_memblock_size {sizes:?}"),
             [1, 0],
-            move |_, out, _| ffi::sizes_get_memblock_size(sizes, 0, 2, one(out)),
+            move |_, out, _| called!(sizes_get_memblock_size(sizes, 0, 2, one(out))),
         ),
     ]
 }
