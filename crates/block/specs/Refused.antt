@@ -1,12 +1,12 @@
 -- When placing, giving back and renaming are refused, and with which number; they are accepted otherwise. Assumes nothing.
-use Prim.Native.Nat.{ℕ, _-_, _^_, _≤_}
+use Prim.Native.Nat.{ℕ, _≤_}
 use native.Mathlib.Omega.{arith}
 use mathlib.Core.List.{List}
 use mathlib.Core.Logic.{_↔_, _≢_, _⊎_, inl, inr}
 use mathlib.Core.Path.{_≡_, refl, sym, ap, _∙_}
 use Rattle.laws.specs.Powers.{Pow64}
 use Rattle.laws.specs.Reply.{Reply, accepted, refused}
-use Rattle.model.specs.Block.{Block, Spot}
+use Rattle.model.specs.Block.{Block, Spot, noId}
 use Rattle.model.specs.Effects.{LiveIn, released, renamed}
 use Rattle.model.specs.GivingBack.{release, rename}
 use Rattle.model.specs.NoneLive.{NoneLive, release-refused, rename-refused}
@@ -87,7 +87,7 @@ module _ (ws : List ℕ) (r : Request) where
 
     -- 8 exactly when these are so, a chunk is to be split, and the next id is 2^64 - 1.
     pub allocate-refused-8 : allocateOn ws r .0 ≡ refused 8
-        ↔ (TableWords ws × Sound ws × (WellFormed r × SplitsAt r ws × (nextId ws ≡ 2 ^ 64 - 1)))
+        ↔ (TableWords ws × Sound ws × (WellFormed r × SplitsAt r ws × (nextId ws ≡ noId)))
     unfolding blockOf
     allocate-refused-8 =
         allocate-refused-later 8 (omega arith)
@@ -99,7 +99,7 @@ module _ (ws : List ℕ) (r : Request) where
     -- 9 exactly when these are so, a chunk is to be split, the next id is not that, and every slot is used.
     pub allocate-refused-9 : allocateOn ws r .0 ≡ refused 9
         ↔ (TableWords ws × Sound ws
-        × (WellFormed r × SplitsAt r ws × (nextId ws ≢ 2 ^ 64 - 1) × ((k : ℕ) → Slot ws k → Used ws k)))
+        × (WellFormed r × SplitsAt r ws × (nextId ws ≢ noId) × ((k : ℕ) → Slot ws k → Used ws k)))
     unfolding blockOf
     allocate-refused-9 =
         allocate-refused-later 9 (omega arith)

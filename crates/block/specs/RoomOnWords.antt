@@ -1,6 +1,6 @@
 -- Demand 3, its first half, on the words of a sound table: when a request is told 'no room', and where an accepted one is
 -- put. Assumes nothing.
-use Prim.Native.Nat.{ℕ, _+_, _-_, _%_, _^_, _≤_, _<_}
+use Prim.Native.Nat.{ℕ, _+_, _-_, _%_, _≤_, _<_}
 use native.Mathlib.Omega.{arith}
 use mathlib.Core.List.{List, [], _∷_}
 use mathlib.Core.Logic.{_↔_, _≢_, _⊎_, inl, inr, ⊎-elim, Iff·trans}
@@ -9,7 +9,7 @@ use mathlib.Core.Path.{_≡_, refl, sym, ap, subst, _∙_}
 use Rattle.laws.specs.Reply.{Reply, accepted, refused}
 use Rattle.laws.specs.Tests.{either}
 use Rattle.pages.specs.Vulkan.{Resource}
-use Rattle.model.specs.Block.{Chunk, Block, Spot, total, first}
+use Rattle.model.specs.Block.{Chunk, Block, Spot, total, first, noId}
 use Rattle.model.specs.Choose.{Cut}
 use Rattle.model.specs.Effects.{placed-cases}
 use Rattle.model.specs.Placing.{Request, Placed, takenAt, chosen, newSlot, place}
@@ -64,7 +64,7 @@ pub record PlacedAt (r : Request) (ws : List ℕ) (g : Given) : Type 0 where
   pub best : BestAt r ws slot (g .offset)
   pub whole : g .offset - firstByteAt ws slot + r .size ≡ sizeAt ws slot → g .id ≡ idAt ws slot
   pub part : g .offset - firstByteAt ws slot + r .size ≢ sizeAt ws slot
-      → (g .id ≡ nextId ws) × (nextId ws ≢ 2 ^ 64 - 1) × ((j : ℕ) × Slot ws j × (Used ws j → ⊥))
+      → (g .id ≡ nextId ws) × (nextId ws ≢ noId) × ((j : ℕ) × Slot ws j × (Used ws j → ⊥))
 
 -- the chunk at the request's place has more bytes than padding and size come to: it is to be split
 pub record SplitsAt (r : Request) (ws : List ℕ) : Type 0 where
@@ -221,7 +221,7 @@ module _ (r : Request) (h : WellFormed r) (ws : List ℕ) (t : TableWords ws) (s
       answered _ fit ∙ ap (λ (i : ℕ). accepted record { offset = o; id = i }) (sym (p .1 .id))
 
   -- A split is accepted where there is an id and a slot that is not used, and has the next id.
-  pub piece-accepted : (x : SplitsAt r ws) → nextId ws ≢ 2 ^ 64 - 1 → (j : ℕ) → Slot ws j → (Used ws j → ⊥)
+  pub piece-accepted : (x : SplitsAt r ws) → nextId ws ≢ noId → (j : ℕ) → Slot ws j → (Used ws j → ⊥)
       → allocateOn ws r .0 ≡ accepted record { offset = x .offset; id = nextId ws }
   unfolding blockOf splits-words
   piece-accepted x n j l u =
@@ -263,7 +263,7 @@ room-accepted r h ws g e =
     let m = k .best .room in
     let i : Standing ws z (z .chunk .slot) = spot-stands ws t s z (m .cut) in
     let last =
-    placed-cases r b sound p (a .2 .1) (λ q. (q .block .next ≡ b .next) ⊎ (b .next ≢ 18446744073709551615))
+    placed-cases r b sound p (a .2 .1) (λ q. (q .block .next ≡ b .next) ⊎ (b .next ≢ noId))
     (λ y j w. inl refl) (λ y j l n u. inr n) in
     let placed : PlacedAt r ws (given p) = record {
       slot = z .chunk .slot;

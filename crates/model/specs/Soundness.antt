@@ -1,5 +1,5 @@
 -- When a block is sound. Assumes nothing.
-use Prim.Native.Nat.{_^_, _≤_, _<_}
+use Prim.Native.Nat.{_≤_, _<_}
 use mathlib.Core.Logic.{_≢_}
 use mathlib.Core.Path.{_≡_}
 use Rattle.laws.specs.Lists.{All, Pairwise, Linked}

@@ -1,5 +1,5 @@
 -- Creation: 1, then 13, and no look at old content. Assumes nothing.
-use Prim.Native.Nat.{ℕ, _^_}
+use Prim.Native.Nat.{ℕ}
 use mathlib.Core.Bool.{Bool, cond}
 use mathlib.Core.List.{List}
 use Rattle.laws.specs.Reply.{Reply, accepted, refused}

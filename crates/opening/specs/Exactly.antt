@@ -1,5 +1,5 @@
 -- When each call is refused, and what it answers otherwise. Assumes nothing.
-use Prim.Native.Nat.{ℕ, _^_, _≤_, _<_}
+use Prim.Native.Nat.{ℕ, _≤_, _<_}
 use native.Mathlib.Omega.{arith}
 use mathlib.Core.Bool.{true, false}
 use mathlib.Core.List.{List}
