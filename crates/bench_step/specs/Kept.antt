@@ -14,7 +14,7 @@ use Rattle.laws.specs.Reply.{Reply, accepted, refused}
 use Rattle.laws.specs.Tests.{cond-cases}
 use Rattle.model.specs.Runs.{Call}
 use Rattle.model.specs.Runs.Call.{allocate, free, renameTo}
-use Rattle.table.specs.Layout.{wordCount}
+use Rattle.table.specs.Layout.{wordCount, mostSlots, mostWords}
 use Rattle.words.specs.Checks.{upTo}
 use Rattle.words.specs.Soundness.{Sound}
 use Rattle.opening.specs.Creation.{newOn}
@@ -26,10 +26,10 @@ use Rattle.call_lines.specs.Format.{Asked}
 use Rattle.call_lines.specs.Format.Asked.{new, call}
 use Rattle.bench_step.specs.Step.{Outcome, opened, newAnswered, wordsAfter, lineAfter, callAnswered, answered}
 
--- so many slots are at most 512
-pub slots-most : (slots : ℕ) → upTo 512 slots ≡ true → slots ≤ 512
+-- so many slots are no more than the largest table has
+pub slots-most : (slots : ℕ) → upTo mostSlots slots ≡ true → slots ≤ mostSlots
 unfolding upTo
-slots-most slots u = leb-true slots 512 (pass (leb 1 slots ∷ leb slots 512 ∷ []) 1 u)
+slots-most slots u = leb-true slots mostSlots (pass (leb 1 slots ∷ leb slots mostSlots ∷ []) 1 u)
 
 -- A call leaves as many words as there were.
 pub after-length : (c : Call) (ws : List ℕ) → length (wordsAfter c ws) ≡ length ws
@@ -50,12 +50,12 @@ unfolding callAnswered
 call-ways P c ws f g = cond-cases P (eqb (length ws) 0) {x = (none, ws)} {y = lineAfter c ws} (λ e. f) (λ e. g)
 
 new-ways : (P : Outcome → Type 0) (size slots : ℕ) (ws : List ℕ) → P (none, ws)
-    → (slots ≤ 512 → P (opened (newOn (replicate (wordCount slots) 0) size))) → P (newAnswered size slots ws)
+    → (slots ≤ mostSlots → P (opened (newOn (replicate (wordCount slots) 0) size))) → P (newAnswered size slots ws)
 unfolding newAnswered
-new-ways P size slots ws f g = cond-cases P (upTo 512 slots) (λ u. g (slots-most slots u)) (λ u. f)
+new-ways P size slots ws f g = cond-cases P (upTo mostSlots slots) (λ u. g (slots-most slots u)) (λ u. f)
 
 -- A new block is the same one whatever was at hand.
-pub new-same : (size slots : ℕ) (ws vs : List ℕ) → upTo 512 slots ≡ true → newAnswered size slots ws ≡ newAnswered size slots vs
+pub new-same : (size slots : ℕ) (ws vs : List ℕ) → upTo mostSlots slots ≡ true → newAnswered size slots ws ≡ newAnswered size slots vs
 unfolding newAnswered
 new-same size slots ws vs u = rw u
 
@@ -70,7 +70,7 @@ call-none c = refl
 
 -- ---- room
 
-module _ (n : ℕ) (most : 3588 ≤ n) where
+module _ (n : ℕ) (most : mostWords ≤ n) where
   opened-fits : (ws : List ℕ) (size : ℕ) (r : Reply (Unit {0}) × List ℕ) → newOn ws size ≡ r → length ws ≤ n → length (opened r .1) ≤ n
   opened-fits ws size (accepted a, vs) e h =
       let ok : newOn ws size .0 ≡ accepted tt = ap (λ (x : Reply (Unit {0}) × List ℕ). x .0) e in
