@@ -7,12 +7,11 @@ use mathlib.Core.Logic.{_≢_}
 use mathlib.Core.Option.{Option}
 use mathlib.Core.Path.{_≡_, refl, sym, ap, _∙_}
 use borrow.Author.Tests.{le-leb, lt-leb, leb-true, eq-eqb, ne-eqb}
-use lib.Dec.{eqb, leb}
+use lib.Dec.{leb}
 use lib.ListN.{length, take}
-use lib.Seq.{length-take-le}
-use Rattle.laws.specs.Every.{fail, pass, second}
+use Rattle.laws.specs.Every.{fail, second}
 use Rattle.laws.specs.Splice.{splice}
-use Rattle.laws.specs.Tests.{either, cond-cases}
+use Rattle.laws.specs.Tests.{either}
 use Rattle.model.specs.Lines.{Line as AnswerLine}
 use Rattle.table.specs.Layout.{mostWords}
 use Rattle.call_lines.specs.Format.{Asked}
@@ -20,7 +19,6 @@ use Rattle.call_lines.specs.Reading as reading
 use Rattle.call_lines.specs.declared.line.Line.{Line}
 use Rattle.answer_lines.specs.Printed.{printed, longest}
 use Rattle.answer_lines.specs.Stored.{Stored}
-use Rattle.bench_step.specs.Kept.{answered-fits}
 use Rattle.bench_step.specs.Step.{answered, stored}
 use Rattle.bench_lines.specs.Feeding.{Kept, fits, hasRoom, outcome, endedOn, takenOn}
 use Rattle.bench_lines.specs.declared.Bench.{Bench}

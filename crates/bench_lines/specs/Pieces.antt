@@ -1,18 +1,15 @@
 -- A text that is fed in by any number of calls: together they print what its lines print. Assumes nothing.
 use Prim.Native.Nat.{ℕ, _+_, _-_, _≤_}
 use native.Mathlib.Omega.{arith}
-use mathlib.Core.Bool.{Bool, true, false, cond}
+use mathlib.Core.Bool.{true, cond}
 use mathlib.Core.List.{List, [], _∷_, _++_, append-assoc, append-nil}
-use mathlib.Core.Logic.{⊎-elim}
 use mathlib.Core.Path.{_≡_, refl, sym, ap, _∙_}
 use lib.ListN.{length, take, drop, length-append, length-drop, take-append-drop}
-use lib.Seq.{drop-append-le, take-all}
-use Rattle.laws.specs.Tests.{cond-cases}
-use Rattle.call_lines.specs.Reading as reading
+use lib.Seq.{drop-append-le}
 use Rattle.answer_lines.specs.Printed.{printed, longest}
 use Rattle.bench_lines.specs.Feeding.{FedKept, begin, isBegun, fits, feedOn}
 use Rattle.bench_lines.specs.Fed.{Feeds, stateOf, feeds}
-use Rattle.bench_lines.specs.Told.{State, after, tells, comes, afterAll, told, lastTold, start, after-pieces, told-pieces, text-told}
+use Rattle.bench_lines.specs.Told.{State, comes, afterAll, told, lastTold, start, after-pieces, told-pieces, text-told}
 use Rattle.bench_lines.specs.Text.{output}
 use Rattle.bench_lines.specs.declared.Bench.{Bench}
 
