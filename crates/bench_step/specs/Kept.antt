@@ -68,27 +68,6 @@ pub call-none : (c : Call) → callAnswered c [] ≡ (none, [])
 unfolding callAnswered
 call-none c = refl
 
--- ---- room
-
-module _ (n : ℕ) (most : mostWords ≤ n) where
-  opened-fits : (ws : List ℕ) (size : ℕ) (r : Reply (Unit {0}) × List ℕ) → newOn ws size ≡ r → length ws ≤ n → length (opened r .1) ≤ n
-  opened-fits ws size (accepted a, vs) e h =
-      let ok : newOn ws size .0 ≡ accepted tt = ap (λ (x : Reply (Unit {0}) × List ℕ). x .0) e in
-      let l : length vs ≡ length ws = sym (ap (λ (x : Reply (Unit {0}) × List ℕ). length (x .1)) e) ∙ new-table ws size ok .1 in
-      omega arith
-  opened-fits ws size (refused m, vs) e h = omega arith
-
-  -- No line needs more words than the largest table has, or the one at hand.
-  pub answered-fits : (a : Option Asked) (ws : List ℕ) → length ws ≤ n → length (answered a ws .1) ≤ n
-  answered-fits none ws h = h
-  answered-fits (some (new size slots)) ws h =
-      new-ways (λ (x : Outcome). length (x .1) ≤ n) size slots ws h
-      (λ s.
-      let l : _≡_ {A = ℕ} (length (replicate {A = ℕ} (wordCount slots) 0)) (wordCount slots) = length-replicate (wordCount slots) 0 in
-      opened-fits (replicate (wordCount slots) 0) size _ refl (omega arith))
-  answered-fits (some (call c)) ws h =
-      call-ways (λ (x : Outcome). length (x .1) ≤ n) c ws h (omega (arith, after-length c ws))
-
 -- ---- soundness
 
 -- there is no block, or a sound table
@@ -112,3 +91,24 @@ answered-sound (some (call c)) ws (inl e) =
     call-ways (λ (x : Outcome). AtHand (x .1)) c ws (inl e) (inl (after-length c ws ∙ e))
 answered-sound (some (call c)) ws (inr s) =
     call-ways (λ (x : Outcome). AtHand (x .1)) c ws (inr s) (inr (after-sound c ws (s .0) (s .1)))
+
+-- ---- room
+
+module _ (n : ℕ) (most : mostWords ≤ n) where
+  opened-fits : (ws : List ℕ) (size : ℕ) (r : Reply (Unit {0}) × List ℕ) → newOn ws size ≡ r → length ws ≤ n → length (opened r .1) ≤ n
+  opened-fits ws size (accepted a, vs) e h =
+      let ok : newOn ws size .0 ≡ accepted tt = ap (λ (x : Reply (Unit {0}) × List ℕ). x .0) e in
+      let l : length vs ≡ length ws = sym (ap (λ (x : Reply (Unit {0}) × List ℕ). length (x .1)) e) ∙ new-table ws size ok .1 in
+      omega arith
+  opened-fits ws size (refused m, vs) e h = omega arith
+
+  -- No line needs more words than the largest table has, or the one at hand.
+  pub answered-fits : (a : Option Asked) (ws : List ℕ) → length ws ≤ n → length (answered a ws .1) ≤ n
+  answered-fits none ws h = h
+  answered-fits (some (new size slots)) ws h =
+      new-ways (λ (x : Outcome). length (x .1) ≤ n) size slots ws h
+      (λ s.
+      let l : _≡_ {A = ℕ} (length (replicate {A = ℕ} (wordCount slots) 0)) (wordCount slots) = length-replicate (wordCount slots) 0 in
+      opened-fits (replicate (wordCount slots) 0) size _ refl (omega arith))
+  answered-fits (some (call c)) ws h =
+      call-ways (λ (x : Outcome). length (x .1) ≤ n) c ws h (omega (arith, after-length c ws))
