@@ -19,6 +19,9 @@ pub enum Answer {
     Unread,
 }
 
+// The most bytes that an answer has: `longest` of its definition.
+pub const LONGEST: usize = 84;
+
 // Stores a number and the byte behind it, and answers the next place.
 fn put_field(out: &mut [u8], at: usize, n: u64, end: u8) -> usize
     requires { ⌜ at + 21 ≤ length (now out) ⌝ }

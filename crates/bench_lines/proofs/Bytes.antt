@@ -7,19 +7,18 @@ use mathlib.Core.Logic.{_≢_}
 use mathlib.Core.Option.{Option}
 use mathlib.Core.Path.{_≡_, refl, sym, ap, _∙_}
 use borrow.Author.Tests.{le-leb, lt-leb, leb-true, eq-eqb, ne-eqb}
-use lib.Dec.{eqb, leb}
+use lib.Dec.{leb}
 use lib.ListN.{length, take}
-use lib.Seq.{length-take-le}
-use Rattle.laws.specs.Every.{fail, pass, second}
+use Rattle.laws.specs.Every.{fail, second}
 use Rattle.laws.specs.Splice.{splice}
-use Rattle.laws.specs.Tests.{either, cond-cases}
+use Rattle.laws.specs.Tests.{either}
 use Rattle.model.specs.Lines.{Line as AnswerLine}
+use Rattle.table.specs.Layout.{mostWords}
 use Rattle.call_lines.specs.Format.{Asked}
 use Rattle.call_lines.specs.Reading as reading
 use Rattle.call_lines.specs.declared.line.Line.{Line}
 use Rattle.answer_lines.specs.Printed.{printed, longest}
 use Rattle.answer_lines.specs.Stored.{Stored}
-use Rattle.bench_step.specs.Kept.{answered-fits}
 use Rattle.bench_step.specs.Step.{answered, stored}
 use Rattle.bench_lines.specs.Feeding.{Kept, fits, hasRoom, outcome, endedOn, takenOn}
 use Rattle.bench_lines.specs.declared.Bench.{Bench}
@@ -27,19 +26,13 @@ use Rattle.bench_lines.specs.declared.Bench.{Bench}
 -- ---- the store, and the room
 
 module _ (s : Bench) (store : List ℕ) where
-  pub too-short : length store < 3588 → false ≡ fits s store
+  pub too-short : length store < mostWords → false ≡ fits s store
   unfolding fits
-  too-short h = sym (fail (leb 3588 (length store) ∷ leb (s .lent) (length store) ∷ []) 0 (lt-leb 3588 (length store) h))
+  too-short h = sym (fail (leb mostWords (length store) ∷ leb (s .lent) (length store) ∷ []) 0 (lt-leb mostWords (length store) h))
 
-  pub long-enough : 3588 ≤ length store → leb (s .lent) (length store) ≡ fits s store
+  pub long-enough : mostWords ≤ length store → leb (s .lent) (length store) ≡ fits s store
   unfolding fits
-  long-enough h = sym (second (leb 3588 (length store)) (leb (s .lent) (length store)) (le-leb 3588 (length store) h))
-
-  pub fitting : fits s store ≡ true → (3588 ≤ length store) × (s .lent ≤ length store)
-  unfolding fits
-  fitting e =
-      let tests = leb 3588 (length store) ∷ leb (s .lent) (length store) ∷ [] in
-      (leb-true 3588 (length store) (pass tests 0 e), leb-true (s .lent) (length store) (pass tests 1 e))
+  long-enough h = sym (second (leb mostWords (length store)) (leb (s .lent) (length store)) (le-leb mostWords (length store) h))
 
 module _ (s : Bench) (out : List ℕ) where
   pub no-room : length out < longest → false ≡ hasRoom s out
@@ -81,11 +74,6 @@ module _ (s : Bench) (store out : List ℕ) where
       rw (l, w .ends, w .holds)
       (ap kept (e ∙ ap (λ (y : Option Asked). stored store (answered y (take (s .lent) store))) q) ∙ kept-is)
 
-  -- The words at hand stay within the store.
-  pub ended-fits : 3588 ≤ length store → s .lent ≤ length store → endedOn s store out .0 .lent ≤ length store
-  unfolding endedOn
-  ended-fits m h = answered-fits (length store) m (reading.asked (s .line)) (take (s .lent) store) (omega (arith, length-take-le (s .lent) store h))
-
 -- ---- a byte
 
 module _ (s : Bench) (b : ℕ) (store out : List ℕ) where
@@ -97,7 +85,3 @@ module _ (s : Bench) (b : ℕ) (store out : List ℕ) where
       → (record { line = line; lent = s .lent; used = s .used }, store, out) ≡ takenOn s b store out
   unfolding takenOn
   at-byte n line l = rw (ne-eqb b 10 n, l)
-
-  pub taken-fits : 3588 ≤ length store → s .lent ≤ length store → takenOn s b store out .0 .lent ≤ length store
-  unfolding takenOn
-  taken-fits m h = cond-cases (λ (k : Kept). k .0 .lent ≤ length store) (eqb b 10) (λ e. ended-fits s store out m h) (λ e. h)

@@ -6,8 +6,9 @@ use mathlib.Core.List.{List, [], _∷_}
 use mathlib.Core.Path.{_≡_, refl, sym, ap, _∙_}
 use lib.ListN.{length, drop, getD, drop-of-length-le}
 use lib.Seq.{drop-cons}
-use Rattle.bench_lines.proofs.Bytes.{fitting, taken-fits}
+use Rattle.table.specs.Layout.{mostWords}
 use Rattle.bench_lines.specs.Fed.{next-fits}
+use Rattle.bench_lines.specs.Fits.{fitting, taken-stays}
 use Rattle.bench_lines.specs.Feeding.{Kept, FedKept, emptied, fits, hasRoom, takenOn, stopped, fedFrom, feedOn}
 use Rattle.bench_lines.specs.declared.Bench.{Bench}
 
@@ -56,7 +57,7 @@ module _ (text : List ℕ) (from : ℕ) (s e : Bench) (store out : List ℕ) (q 
 pub record Going (text : List ℕ) (from : ℕ) (first : Kept) (at : ℕ) (s : Bench) (store out : List ℕ) : Type 0 where
   pub stores : length store ≡ length (first .1)
   pub outs : length out ≡ length (first .2)
-  pub long : 3588 ≤ length store
+  pub long : mostWords ≤ length store
   pub lent : s .lent ≤ length store
   pub used : s .used ≤ length out
   pub same : fedFrom at (drop at text) (s, store, out) ≡ fedFrom from (drop from text) first
@@ -72,7 +73,7 @@ pub turn : (text : List ℕ) (from : ℕ) (first : Kept) (at : ℕ) (s : Bench) 
     → length store′ ≡ length store → length out′ ≡ length out → Going text from first (at + 1) s′ store′ out′
 turn text from first at s store out g h e s′ store′ out′ q l m =
     let lent : s′ .lent ≤ length store =
-    rw (ap (λ (k : Kept). k .0 .lent) q) (taken-fits s (getD text at 0) store out (g .long) (g .lent)) in
+    rw (ap (λ (k : Kept). k .0 .lent) q) (taken-stays s (getD text at 0) store out (g .long) (g .lent) .1) in
     let used : s′ .used ≤ length out′ =
     rw (ap (λ (k : Kept). k .0 .used) q, ap (λ (k : Kept). k .2) q) (next-fits s (getD text at 0) store out (g .used)) in
     record {

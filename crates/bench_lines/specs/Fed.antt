@@ -12,9 +12,11 @@ use lib.ListN.{length, take, drop, length-append}
 use lib.Seq.{take-all}
 use Rattle.laws.specs.Splice.{splice, splice-on, splice-reaches, splice-none, take-splice}
 use Rattle.laws.specs.Tests.{cond-cases}
+use Rattle.table.specs.Layout.{mostWords}
 use Rattle.call_lines.specs.Reading as reading
 use Rattle.answer_lines.specs.Printed.{printed, longest}
 use Rattle.bench_lines.specs.Feeding.{Kept, FedKept, begin, emptied, fits, hasRoom, outcome, endedOn, takenOn, stopped, fedFrom, feedOn}
+use Rattle.bench_lines.specs.Fits.{fitting, fit, fed-stays}
 use Rattle.bench_lines.specs.Told.{State, after, tells, afterAll, told, lastTold, start, text-told}
 use Rattle.bench_lines.specs.Text.{output}
 use Rattle.bench_lines.specs.declared.Bench.{Bench}
@@ -150,13 +152,16 @@ moved k at text r zero u p room h =
 -- ---- a call
 
 -- A call reads some bytes of the text, from its place on. The first bytes of the buffer are what these print, and what is kept is what
--- they leave. It stops at the end of the text, or where the buffer has no room for one more answer.
+-- they leave, in a store that is as long as it was and long enough for the next call. It stops at the end of the text, or where the
+-- buffer has no room for one more answer.
 pub record Feeds (text : List ℕ) (from : ℕ) (s : Bench) (store out : List ℕ) (r : FedKept) : Type 0 where
   pub bytes : ℕ
   pub most : bytes ≤ length (drop from text)
   pub read : r .0 .read ≡ from + bytes
   pub prints : take (r .0 .bench .used) (r .2) ≡ told (stateOf s store) (take bytes (drop from text))
   pub keeps : stateOf (r .0 .bench) (r .1) ≡ afterAll (stateOf s store) (take bytes (drop from text))
+  pub long : fits (r .0 .bench) (r .1) ≡ true
+  pub stays : length (r .1) ≡ length store
   pub stops : (bytes ≡ length (drop from text)) ⊎ (hasRoom (r .0 .bench) (r .2) ≡ false)
   pub moves : longest ≤ length out → 1 ≤ length (drop from text) → 1 ≤ bytes
 
@@ -166,6 +171,13 @@ pub feeds : (text : List ℕ) (from : ℕ) (s : Bench) (store out : List ℕ) �
 unfolding feedOn
 feeds text from s store out f = rw f (by (reads (drop from text) from (emptied s, store, out) (omega arith)))
   where
+    enough : (mostWords ≤ length store) × (s .lent ≤ length store)
+    enough = fitting s store f
+
+    same : (length (fedFrom from (drop from text) (emptied s, store, out) .1) ≡ length store)
+        × (fedFrom from (drop from text) (emptied s, store, out) .0 .bench .lent ≤ length store)
+    same = fed-stays (drop from text) from (emptied s, store, out) (enough .0) (enough .1)
+
     by : (n : ℕ) × Reads (emptied s, store, out) from (drop from text) (fedFrom from (drop from text) (emptied s, store, out)) n
         → Feeds text from s store out (fedFrom from (drop from text) (emptied s, store, out))
     by h = record {
@@ -174,6 +186,8 @@ feeds text from s store out f = rw f (by (reads (drop from text) from (emptied s
       read = h .1 .read;
       prints = front _ _ out _ (h .1 .used) (h .1 .out);
       keeps = h .1 .keeps;
+      long = fit _ _ (omega (arith, same, enough)) (omega (arith, same));
+      stays = same .0;
       stops = h .1 .stops;
       moves = moved (emptied s, store, out) from (drop from text) _ (h .0) refl (h .1);
     }

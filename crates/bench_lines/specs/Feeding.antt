@@ -6,6 +6,7 @@ use lib.Dec.{eqb, leb}
 use lib.ListN.{length, take, drop}
 use Rattle.laws.specs.Every.{every}
 use Rattle.laws.specs.Splice.{splice}
+use Rattle.table.specs.Layout.{mostWords}
 use Rattle.call_lines.specs.Reading as reading
 use Rattle.answer_lines.specs.Printed.{printed, longest}
 use Rattle.bench_step.specs.Step.{Outcome, answered}
@@ -22,9 +23,9 @@ emptied s = record { line = s .line; lent = s .lent; used = 0 }
 abbrev pub isBegun : Bench → Bool
 isBegun s = reading.isBegun (s .line)
 
--- the largest table has 3588 words
+-- the store is long enough for every table, and for the one at hand
 unfoldable pub fits : Bench → List ℕ → Bool
-fits s store = every (leb 3588 (length store) ∷ leb (s .lent) (length store) ∷ [])
+fits s store = every (leb mostWords (length store) ∷ leb (s .lent) (length store) ∷ [])
 
 -- one more answer finds room
 unfoldable pub hasRoom : Bench → List ℕ → Bool
@@ -78,6 +79,6 @@ feedOn text from s store out =
 
 -- the store is long enough for every table and for the one at hand, and the buffer has room for an answer
 pub record Ready (s : Bench) (store out : List ℕ) : Type 0 where
-  pub long : 3588 ≤ length store
+  pub long : mostWords ≤ length store
   pub lent : s .lent ≤ length store
   pub room : s .used + longest ≤ length out

@@ -2,13 +2,16 @@
 use Prim.Native.Nat.{ℕ}
 use Prim.Native.String.{String}
 use mathlib.Core.Bool.{true, false}
-use mathlib.Core.List.{[], _∷_, _++_}
+use mathlib.Core.List.{List, [], _∷_, _++_}
 use mathlib.Core.Path.{_≡_, refl}
 use lib.ListN.{length, take, replicate}
 use Rattle.laws.specs.Letters.{bytes}
 use Rattle.laws.specs.Splice.{splice}
+use Rattle.table.specs.Layout.{mostWords}
 use Rattle.call_lines.specs.Reading as reading
+use Rattle.answer_lines.specs.Printed.{longest}
 use Rattle.bench_lines.specs.Feeding.{FedKept, begin, isBegun, fits, hasRoom, endedOn, takenOn, fedFrom, feedOn}
+use Rattle.bench_lines.specs.Pieces.{Turn, Left, Reads, printedIn, leftAfter, endPrinted}
 use Rattle.bench_lines.specs.TextExamples.{prints}
 use Rattle.bench_lines.specs.declared.Bench.{Bench}
 
@@ -117,3 +120,29 @@ unread-begun = refl
 begin-not-begun : isBegun begin ≡ false
 unfolding reading.isBegun
 begin-not-begun = refl
+
+-- ---- calls one after the other
+
+-- a text in two pieces, of which the second takes two calls, each in a buffer that takes one answer
+abbrev oneAnswer : String → ℕ → Turn
+oneAnswer text from = record { text = bytes text; from = from; out = replicate longest 9 }
+
+abbrev threeTurns : List Turn
+threeTurns = oneAnswer "n 40" 0 ∷ oneAnswer "96 1\nf 7" 0 ∷ oneAnswer "96 1\nf 7" 5 ∷ []
+
+abbrev atFirst : Left
+atFirst = (begin, replicate mostWords 9)
+
+-- They read the whole text, and print the answer of its first line.
+all-pieces : Reads threeTurns atFirst (bytes "n 4096 1\nf 7") []
+unfolding fed Reads
+all-pieces = ((bytes "96 1\nf 7", refl), (([], refl), (([], refl), refl)))
+
+first-printed : printedIn threeTurns atFirst ≡ bytes "0 0 0 0\n"
+unfolding fed printedIn
+first-printed = refl
+
+-- The last one has no line feed: it gets one, and its answer.
+last-printed : endPrinted (leftAfter threeTurns atFirst) (replicate longest 9) ≡ bytes "10 0 0 0\n"
+unfolding fed leftAfter reading.isBegun
+last-printed = refl

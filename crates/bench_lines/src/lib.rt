@@ -1,7 +1,9 @@
 // The text program between reading and writing: a text is fed in, piece by piece, and what it prints is put into a buffer.
 use answer_lines;
+use answer_lines::LONGEST;
 use bench_step;
 use call_lines::line::Line;
+use table::layout;
 ghost use mathlib.Core.Path.{_≡_};
 ghost use Prim.Native.Nat.{_≤_};
 ghost use lib.ListN.{length};
@@ -53,7 +55,7 @@ impl Bench {
     fn fits(self, store: &[u64]) -> bool
         ensures { λ r. ⌜ r ≡ fits self (now (store .entry)) ⌝ }
     {
-        if store.len() < 3588 {
+        if store.len() < layout::MOST_WORDS {
             return false;
         }
         self.lent <= store.len()
@@ -63,10 +65,10 @@ impl Bench {
     fn has_room(self, out: &[u8]) -> bool
         ensures { λ r. ⌜ r ≡ hasRoom self (now (out .entry)) ⌝ }
     {
-        if out.len() < 84 {
+        if out.len() < LONGEST {
             return false;
         }
-        self.used <= out.len() - 84
+        self.used <= out.len() - LONGEST
     }
 
     // The line ends: it is answered, and the next one begins.

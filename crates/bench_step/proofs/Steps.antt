@@ -13,7 +13,7 @@ use Rattle.laws.specs.Reply.{Reply, accepted, refused, number, not-refused}
 use Rattle.laws.specs.Splice.{splice, splice-front, splice-none}
 use Rattle.model.specs.Lines.{Line, line}
 use Rattle.model.specs.Runs.{Call}
-use Rattle.table.specs.Layout.{wordCount}
+use Rattle.table.specs.Layout.{wordCount, mostSlots, mostWords}
 use Rattle.words.specs.Checks.{upTo}
 use Rattle.opening.specs.Creation.{newOn}
 use Rattle.opening.specs.Exactly.{new-cases}
@@ -61,50 +61,50 @@ agree (refused n, ws) (accepted b, vs) e h = absurd (not-refused (sym e))
 agree (refused n, ws) (refused m, vs) e h = ap (λ (x : ℕ). (some (line x 0 0 0), [])) (ap number e)
 
 -- so many slots have so many words
-pub slot-words : (slots n : ℕ) → upTo 512 slots ≡ true → 3588 ≤ n → wordCount slots ≤ n
-slot-words slots n u h = omega (arith, slots-most slots u)
+pub slot-words : (slots end n : ℕ) → end ≡ wordCount slots → upTo mostSlots slots ≡ true → mostWords ≤ n → end ≤ n
+slot-words slots end n e u h = omega (arith, slots-most slots u)
 
 module _ (store : List ℕ) (lent size slots : ℕ) where
   -- There are no so many slots.
-  pub no-slots : lent ≤ length store → upTo 512 slots ≡ false
+  pub no-slots : lent ≤ length store → upTo mostSlots slots ≡ false
       → (none, lent, store) ≡ stored store (newAnswered size slots (take lent store))
   unfolding newAnswered
   no-slots h u = rw u (unread store lent h)
 
-  module _ (h : wordCount slots ≤ length store) (u : upTo 512 slots ≡ true) where
-    lent-words : length (take (wordCount slots) store) ≡ wordCount slots
-    lent-words = length-take-le (wordCount slots) store h
+  module _ (end : ℕ) (is : end ≡ wordCount slots) (h : end ≤ length store) (u : upTo mostSlots slots ≡ true) where
+    lent-words : length (take end store) ≡ end
+    lent-words = length-take-le end store h
 
-    as-answered : stored store (opened (newOn (take (wordCount slots) store) size)) ≡ stored store (newAnswered size slots (take lent store))
+    as-answered : stored store (opened (newOn (take end store) size)) ≡ stored store (newAnswered size slots (take lent store))
     unfolding newAnswered
     as-answered =
-        let blind = new-blind (take (wordCount slots) store) (replicate (wordCount slots) 0) size (lent-words ∙ sym (length-replicate (wordCount slots) 0)) in
+        let blind = new-blind (take end store) (replicate (wordCount slots) 0) size (lent-words ∙ is ∙ sym (length-replicate (wordCount slots) 0)) in
         rw u (ap (stored store) (agree _ _ (blind .0) (blind .1)))
 
     -- It is refused, and the words are kept.
-    pub new-refused : (a : Reply (Unit {0})) (ws : List ℕ) → (a, ws) ≡ newOn (take (wordCount slots) store) size → number a ≢ 0
-        → (some (line (number a) 0 0 0), 0, ws ++ drop (wordCount slots) store) ≡ stored store (newAnswered size slots (take lent store))
+    pub new-refused : (a : Reply (Unit {0})) (ws : List ℕ) → (a, ws) ≡ newOn (take end store) size → number a ≢ 0
+        → (some (line (number a) 0 0 0), 0, ws ++ drop end store) ≡ stored store (newAnswered size slots (take lent store))
     new-refused (accepted x) ws e n = absurd (n refl)
     new-refused (refused m) ws e n =
-        let kept : ws ≡ take (wordCount slots) store =
-        new-cases (take (wordCount slots) store) size (λ r. (refused m, ws) ≡ r → ws ≡ take (wordCount slots) store)
+        let kept : ws ≡ take end store =
+        new-cases (take end store) size (λ r. (refused m, ws) ≡ r → ws ≡ take end store)
         (λ t q. ap (λ (x : Reply (Unit {0}) × List ℕ). x .1) q) (λ t s q. ap (λ (x : Reply (Unit {0}) × List ℕ). x .1) q)
         (λ t s l q. absurd (not-refused (sym (ap (λ (x : Reply (Unit {0}) × List ℕ). x .0) q)))) e in
-        let whole : ws ++ drop (wordCount slots) store ≡ splice store 0 [] =
-        ap (λ (v : List ℕ). v ++ drop (wordCount slots) store) kept ∙ take-append-drop (wordCount slots) store ∙ sym (splice-none store 0) in
+        let whole : ws ++ drop end store ≡ splice store 0 [] =
+        ap (λ (v : List ℕ). v ++ drop end store) kept ∙ take-append-drop end store ∙ sym (splice-none store 0) in
         ap (λ (v : List ℕ). (some (line m 0 0 0), 0, v)) whole ∙ ap (λ (x : Reply (Unit {0}) × List ℕ). stored store (opened x)) e ∙ as-answered
 
     -- It is made.
-    pub new-made : (a : Reply (Unit {0})) (ws : List ℕ) → (a, ws) ≡ newOn (take (wordCount slots) store) size → number a ≡ 0
-        → (some (line (number a) 0 0 0), wordCount slots, ws ++ drop (wordCount slots) store)
+    pub new-made : (a : Reply (Unit {0})) (ws : List ℕ) → (a, ws) ≡ newOn (take end store) size → number a ≡ 0
+        → (some (line (number a) 0 0 0), end, ws ++ drop end store)
         ≡ stored store (newAnswered size slots (take lent store))
     new-made (accepted x) ws e n =
-        let ok : newOn (take (wordCount slots) store) size .0 ≡ accepted tt = sym (ap (λ (x : Reply (Unit {0}) × List ℕ). x .0) e) in
-        let l : length ws ≡ wordCount slots =
-        ap (λ (x : Reply (Unit {0}) × List ℕ). length (x .1)) e ∙ new-table (take (wordCount slots) store) size ok .1 ∙ lent-words in
-        part (some (line 0 0 0 0)) store ws (wordCount slots) l ∙ ap (λ (x : Reply (Unit {0}) × List ℕ). stored store (opened x)) e ∙ as-answered
+        let ok : newOn (take end store) size .0 ≡ accepted tt = sym (ap (λ (x : Reply (Unit {0}) × List ℕ). x .0) e) in
+        let l : length ws ≡ end =
+        ap (λ (x : Reply (Unit {0}) × List ℕ). length (x .1)) e ∙ new-table (take end store) size ok .1 ∙ lent-words in
+        part (some (line 0 0 0 0)) store ws end l ∙ ap (λ (x : Reply (Unit {0}) × List ℕ). stored store (opened x)) e ∙ as-answered
     new-made (refused m) ws e n =
-        absurd (new-cases (take (wordCount slots) store) size (λ r. (refused m, ws) ≡ r → ⊥)
+        absurd (new-cases (take end store) size (λ r. (refused m, ws) ≡ r → ⊥)
         (λ t q. omega (arith, ap (λ (x : Reply (Unit {0}) × List ℕ). number (x .0)) q))
         (λ t s q. omega (arith, ap (λ (x : Reply (Unit {0}) × List ℕ). number (x .0)) q))
         (λ t s l q. not-refused (sym (ap (λ (x : Reply (Unit {0}) × List ℕ). x .0) q))) e)

@@ -14,7 +14,7 @@ use Rattle.laws.specs.Reply.{Reply, accepted, refused}
 use Rattle.laws.specs.Tests.{cond-cases}
 use Rattle.model.specs.Runs.{Call}
 use Rattle.model.specs.Runs.Call.{allocate, free, renameTo}
-use Rattle.table.specs.Layout.{wordCount}
+use Rattle.table.specs.Layout.{wordCount, mostSlots, mostWords}
 use Rattle.words.specs.Checks.{upTo}
 use Rattle.words.specs.Soundness.{Sound}
 use Rattle.opening.specs.Creation.{newOn}
@@ -26,10 +26,10 @@ use Rattle.call_lines.specs.Format.{Asked}
 use Rattle.call_lines.specs.Format.Asked.{new, call}
 use Rattle.bench_step.specs.Step.{Outcome, opened, newAnswered, wordsAfter, lineAfter, callAnswered, answered}
 
--- so many slots are at most 512
-pub slots-most : (slots : ℕ) → upTo 512 slots ≡ true → slots ≤ 512
+-- so many slots are no more than the largest table has
+pub slots-most : (slots : ℕ) → upTo mostSlots slots ≡ true → slots ≤ mostSlots
 unfolding upTo
-slots-most slots u = leb-true slots 512 (pass (leb 1 slots ∷ leb slots 512 ∷ []) 1 u)
+slots-most slots u = leb-true slots mostSlots (pass (leb 1 slots ∷ leb slots mostSlots ∷ []) 1 u)
 
 -- A call leaves as many words as there were.
 pub after-length : (c : Call) (ws : List ℕ) → length (wordsAfter c ws) ≡ length ws
@@ -50,12 +50,12 @@ unfolding callAnswered
 call-ways P c ws f g = cond-cases P (eqb (length ws) 0) {x = (none, ws)} {y = lineAfter c ws} (λ e. f) (λ e. g)
 
 new-ways : (P : Outcome → Type 0) (size slots : ℕ) (ws : List ℕ) → P (none, ws)
-    → (slots ≤ 512 → P (opened (newOn (replicate (wordCount slots) 0) size))) → P (newAnswered size slots ws)
+    → (slots ≤ mostSlots → P (opened (newOn (replicate (wordCount slots) 0) size))) → P (newAnswered size slots ws)
 unfolding newAnswered
-new-ways P size slots ws f g = cond-cases P (upTo 512 slots) (λ u. g (slots-most slots u)) (λ u. f)
+new-ways P size slots ws f g = cond-cases P (upTo mostSlots slots) (λ u. g (slots-most slots u)) (λ u. f)
 
 -- A new block is the same one whatever was at hand.
-pub new-same : (size slots : ℕ) (ws vs : List ℕ) → upTo 512 slots ≡ true → newAnswered size slots ws ≡ newAnswered size slots vs
+pub new-same : (size slots : ℕ) (ws vs : List ℕ) → upTo mostSlots slots ≡ true → newAnswered size slots ws ≡ newAnswered size slots vs
 unfolding newAnswered
 new-same size slots ws vs u = rw u
 
@@ -67,27 +67,6 @@ call-done c ws h = rw (ne-eqb (length ws) 0 (λ e. omega arith))
 pub call-none : (c : Call) → callAnswered c [] ≡ (none, [])
 unfolding callAnswered
 call-none c = refl
-
--- ---- room
-
-module _ (n : ℕ) (most : 3588 ≤ n) where
-  opened-fits : (ws : List ℕ) (size : ℕ) (r : Reply (Unit {0}) × List ℕ) → newOn ws size ≡ r → length ws ≤ n → length (opened r .1) ≤ n
-  opened-fits ws size (accepted a, vs) e h =
-      let ok : newOn ws size .0 ≡ accepted tt = ap (λ (x : Reply (Unit {0}) × List ℕ). x .0) e in
-      let l : length vs ≡ length ws = sym (ap (λ (x : Reply (Unit {0}) × List ℕ). length (x .1)) e) ∙ new-table ws size ok .1 in
-      omega arith
-  opened-fits ws size (refused m, vs) e h = omega arith
-
-  -- No line needs more words than the largest table has, or the one at hand.
-  pub answered-fits : (a : Option Asked) (ws : List ℕ) → length ws ≤ n → length (answered a ws .1) ≤ n
-  answered-fits none ws h = h
-  answered-fits (some (new size slots)) ws h =
-      new-ways (λ (x : Outcome). length (x .1) ≤ n) size slots ws h
-      (λ s.
-      let l : _≡_ {A = ℕ} (length (replicate {A = ℕ} (wordCount slots) 0)) (wordCount slots) = length-replicate (wordCount slots) 0 in
-      opened-fits (replicate (wordCount slots) 0) size _ refl (omega arith))
-  answered-fits (some (call c)) ws h =
-      call-ways (λ (x : Outcome). length (x .1) ≤ n) c ws h (omega (arith, after-length c ws))
 
 -- ---- soundness
 
@@ -112,3 +91,24 @@ answered-sound (some (call c)) ws (inl e) =
     call-ways (λ (x : Outcome). AtHand (x .1)) c ws (inl e) (inl (after-length c ws ∙ e))
 answered-sound (some (call c)) ws (inr s) =
     call-ways (λ (x : Outcome). AtHand (x .1)) c ws (inr s) (inr (after-sound c ws (s .0) (s .1)))
+
+-- ---- room
+
+module _ (n : ℕ) (most : mostWords ≤ n) where
+  opened-fits : (ws : List ℕ) (size : ℕ) (r : Reply (Unit {0}) × List ℕ) → newOn ws size ≡ r → length ws ≤ n → length (opened r .1) ≤ n
+  opened-fits ws size (accepted a, vs) e h =
+      let ok : newOn ws size .0 ≡ accepted tt = ap (λ (x : Reply (Unit {0}) × List ℕ). x .0) e in
+      let l : length vs ≡ length ws = sym (ap (λ (x : Reply (Unit {0}) × List ℕ). length (x .1)) e) ∙ new-table ws size ok .1 in
+      omega arith
+  opened-fits ws size (refused m, vs) e h = omega arith
+
+  -- No line needs more words than the largest table has, or the one at hand.
+  pub answered-fits : (a : Option Asked) (ws : List ℕ) → length ws ≤ n → length (answered a ws .1) ≤ n
+  answered-fits none ws h = h
+  answered-fits (some (new size slots)) ws h =
+      new-ways (λ (x : Outcome). length (x .1) ≤ n) size slots ws h
+      (λ s.
+      let l : _≡_ {A = ℕ} (length (replicate {A = ℕ} (wordCount slots) 0)) (wordCount slots) = length-replicate (wordCount slots) 0 in
+      opened-fits (replicate (wordCount slots) 0) size _ refl (omega arith))
+  answered-fits (some (call c)) ws h =
+      call-ways (λ (x : Outcome). length (x .1) ≤ n) c ws h (omega (arith, after-length c ws))

@@ -10,7 +10,7 @@ use Rattle.laws.specs.Splice.{splice}
 use Rattle.model.specs.Lines.{Line, line}
 use Rattle.model.specs.Runs.{Call}
 use Rattle.model.specs.Runs.Call.{allocate, free, renameTo}
-use Rattle.table.specs.Layout.{wordCount}
+use Rattle.table.specs.Layout.{wordCount, mostSlots}
 use Rattle.words.specs.Checks.{upTo}
 use Rattle.opening.specs.Creation.{newOn}
 use Rattle.placing.specs.Placing.{allocateOn}
@@ -30,9 +30,9 @@ abbrev pub opened : Reply (Unit {0}) × List ℕ → Outcome
 opened (accepted a, ws) = (some (line 0 0 0 0), ws)
 opened (refused n, ws) = (some (line n 0 0 0), [])
 
--- slots outside 1 to 512 change nothing
+-- no slots, or more than the largest table has, change nothing
 unfoldable pub newAnswered : ℕ → ℕ → List ℕ → Outcome
-newAnswered size slots ws = cond (upTo 512 slots) (opened (newOn (replicate (wordCount slots) 0) size)) (none, ws)
+newAnswered size slots ws = cond (upTo mostSlots slots) (opened (newOn (replicate (wordCount slots) 0) size)) (none, ws)
 
 -- ---- a call
 

@@ -12,6 +12,7 @@ ghost use mathlib.Core.Path.{_≡_};
 ghost use Prim.Native.Nat.{_≤_};
 ghost use lib.ListN.{length, take};
 ghost use Rattle.model.specs.Runs.Call.{allocate, free as freeCall};
+ghost use Rattle.table.specs.Layout.{mostWords};
 ghost use Rattle.opening.specs.Look.{tableFault};
 ghost use Rattle.opening.specs.Questions.{allocatedOn};
 ghost use Rattle.sub_allocator.specs.Requests.{requestOf};
@@ -77,16 +78,16 @@ fn free_answer(words: &mut [u64], id: u64) -> Answer
 
 // A new block takes the place of the one at hand, also where it is refused.
 fn new_step(store: &mut [u64], lent: usize, size: u64, slots: u64) -> Stepped
-    requires { ⌜ (3588 ≤ length (now store)) × (lent ≤ length (now store)) ⌝ }
+    requires { ⌜ (mostWords ≤ length (now store)) × (lent ≤ length (now store)) ⌝ }
     ensures { λ r. ⌜ (answerOf (r .answer), r .lent, now (store .exit)) ≡ stored (now (store .entry)) (newAnswered size slots (take lent (now (store .entry)))) ⌝ }
 {
-    if !ranges::is_up_to(512, slots) {
+    if !ranges::is_up_to(layout::MOST_SLOTS, slots) {
         return Stepped {
             answer: Answer::Unread,
             lent,
         };
     }
-    let end = 4 + 7 * slots as usize;
+    let end = layout::word_count(slots);
     let number = creation::new(&mut store[..end], size).number();
     let answer = Answer::Line {
         number,
@@ -129,7 +130,7 @@ fn free_step(store: &mut [u64], lent: usize, id: u64) -> Stepped
 }
 
 pub fn step(store: &mut [u64], lent: usize, asked: Asked) -> Stepped
-    requires { ⌜ (3588 ≤ length (now store)) × (lent ≤ length (now store)) ⌝ }
+    requires { ⌜ (mostWords ≤ length (now store)) × (lent ≤ length (now store)) ⌝ }
     ensures { λ r. ⌜ (answerOf (r .answer), r .lent, now (store .exit)) ≡ stored (now (store .entry)) (answered (askedOf asked) (take lent (now (store .entry)))) ⌝ }
 {
     match asked {

@@ -1,7 +1,9 @@
--- `blockbench::move_some` is safe and ends. Assumes nothing.
+-- `blockbench::move_some` meets its contract. Assumes nothing.
 use mathlib.Core.Path.{sym}
+use native.Mathlib.Omega.{arith}
 use lib.Seq.{length-take-le}
 use borrow.Author.Needs.{needs}
+use Rattle.blockbench.proofs.Moves.{written, unwritten}
 use Rattle.blockbench.proofs.move_some.Statement.{statement}
 use Rattle.blockbench.proofs.move_some.Tie as tie
 
@@ -36,13 +38,13 @@ same-length : tie.Need-same-length
 same-length c = search needs
 
 returns : tie.Need-returns
-returns c = search needs
+returns c = unwritten _ _ _ _ _ (c .before .before .before .before .before .before .before .before .before .before .before .before .before .before .before .before .pre) (omega arith) _ _ _ (c .before .before .before .before .before .before .before .before .before .before .feed .ensures .0) _ (c .new .ensures)
 
 same-length-2 : tie.Need-same-length-2
 same-length-2 c = search needs
 
 returns-2 : tie.Need-returns-2
-returns-2 c = search needs
+returns-2 c = written _ _ _ _ _ (c .before .before .before .before .before .before .before .before .before .before .before .before .before .pre) (omega arith) _ _ _ (c .before .before .before .before .before .before .before .feed .ensures .0)
 
 pub move-some-spec : {M : Type 1} → statement M
 move-some-spec =
