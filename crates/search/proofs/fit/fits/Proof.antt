@@ -3,7 +3,7 @@ use Prim.Native.Nat.{_+_, _^_, _≤_, _<_}
 use native.Mathlib.Omega.{arith}
 use borrow.Author.Needs.{needs}
 use Rattle.model.specs.Requests.{Words}
-use Rattle.sub_allocator.specs.Requests.{requestOf}
+use Rattle.sub_allocator.specs.Requests.{requestOf, request-words}
 use Rattle.search.specs.Held.{held-slot}
 use Rattle.search.proofs.Offsets.{ends, too-long, long-enough}
 use Rattle.search.proofs.fit.fits.Statement.{statement}
@@ -11,7 +11,7 @@ use Rattle.search.proofs.fit.fits.Tie as tie
 
 -- what the request's type tells of its fields
 words : (c : tie.Start) → Words (requestOf (c .args .request))
-words c = let g = c .good .1 .1 .0 in record { alignment = g .1 .1 .1 .0 .1; granularity = g .1 .1 .1 .1 .1 .0 .1 }
+words c = request-words _ _ (c .good .1 .1 .0)
 
 -- the offset is at least the first byte, and the request ends in a 64-bit word
 bounds : (c : tie.After-offset-in) → (c .before .first-byte .result ≤ c .offset-in .result) × (c .offset-in .result + c .before .before .before .args .request .size < 2 ^ 64)
