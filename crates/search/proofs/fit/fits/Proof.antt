@@ -36,7 +36,7 @@ returns : tie.Need-returns
 returns c = too-long _ _ _ _ _ _ (c .before .before .before .offset-in .ensures) (rw (← (c .before .before .before .before .first-byte .ensures), ← (c .before .before .size .ensures)) (c .if1 .taken))
 
 clears-after-requires : tie.Need-clears-after-requires
-clears-after-requires c κs = (c .before .before .before .before .before .before .pre .1, c .before .before .before .before .before .before .pre .2, bounds (c .before .before .before) .1)
+clears-after-requires c κs = (c .before .before .before .before .before .before .pre .1, c .before .before .before .before .before .before .pre .2, omega (arith, bounds (c .before .before .before)))
 
 returns-2 : tie.Need-returns-2
 returns-2 c = long-enough _ _ _ _ _ _ (c .before .before .before .before .offset-in .ensures) (rw (← (c .before .before .before .before .before .first-byte .ensures), ← (c .before .before .before .size .ensures)) (c .before .if1 .left)) _ (c .clears-after .ensures)
