@@ -12,7 +12,7 @@ use Rattle.laws.specs.Reply.{Reply, accepted, refused, number, not-refused}
 use Rattle.laws.specs.Tests.{both, both-pass, cond-cases}
 use Rattle.pages.specs.Pages.{power-of-two}
 use Rattle.model.specs.Placing.{Request, fault}
-use Rattle.model.specs.Requests.{Words, fault-range, fault-size, fault-alignment, fault-granularity, fault-kind}
+use Rattle.model.specs.Requests.{Words, WellFormed, no-fault-words, fault-range, fault-size, fault-alignment, fault-granularity, fault-kind}
 use Rattle.sub_allocator.specs.Answers.{Given}
 use Rattle.dedicated.specs.Dedicated.{isSound, block, newBlock, requestFault, idFault, writes, allocateIn, freeIn, renameIn, asks, allocatedIn, isEmptyIn, reportOf}
 use Rattle.dedicated.specs.declared.record.DedicatedBlock.{DedicatedBlock}
@@ -141,38 +141,6 @@ module _ (d : DedicatedBlock) where
         (λ s f o l. (λ e. absurd (omega (arith, ap number e)), λ h. absurd (omega (arith, h .1))))
         (λ s f o l. (λ e. absurd (not-refused e), λ h. absurd (omega (arith, h .1))))
 
-    -- 11 exactly when record and request are in order, and the block is occupied.
-    pub allocate-refused-11 : allocateIn d r .0 ≡ refused 11 ↔ (Sound d × (fault r ≡ 0) × (d .allocated ≢ 0))
-    allocate-refused-11 =
-        allocate-cases (λ x. x .0 ≡ refused 11 ↔ (Sound d × (fault r ≡ 0) × (d .allocated ≢ 0)))
-        (λ m. (λ e. absurd (omega (arith, ap number e)), λ h. absurd (m (h .0))))
-        (λ s f. (λ e. absurd (outside (inr (omega arith)) f (ap number e)), λ h. absurd (f (h .1))))
-        (λ s f o. (λ e. (s, f, o), λ h. refl))
-        (λ s f o l. (λ e. absurd (omega (arith, ap number e)), λ h. absurd (h .2 o)))
-        (λ s f o l. (λ e. absurd (not-refused e), λ h. absurd (h .2 o)))
-
-    -- 12 exactly when these are in order, the block is empty, and the size differs from its own.
-    pub allocate-refused-12 : allocateIn d r .0 ≡ refused 12
-        ↔ (Sound d × (fault r ≡ 0) × (d .allocated ≡ 0) × (r .size ≢ d .size))
-    allocate-refused-12 =
-        allocate-cases (λ x. x .0 ≡ refused 12 ↔ (Sound d × (fault r ≡ 0) × (d .allocated ≡ 0) × (r .size ≢ d .size)))
-        (λ m. (λ e. absurd (omega (arith, ap number e)), λ h. absurd (m (h .0))))
-        (λ s f. (λ e. absurd (outside (inr (omega arith)) f (ap number e)), λ h. absurd (f (h .1))))
-        (λ s f o. (λ e. absurd (omega (arith, ap number e)), λ h. absurd (o (h .2))))
-        (λ s f o l. (λ e. (s, f, o, l), λ h. refl))
-        (λ s f o l. (λ e. absurd (not-refused e), λ h. absurd (h .3 l)))
-
-    -- Accepted exactly otherwise: offset 0 and id 1, all of the block allocated, and the request's label.
-    pub allocate-accepted : (Sound d × (fault r ≡ 0) × (d .allocated ≡ 0) × (r .size ≡ d .size))
-        ↔ allocateIn d r ≡ (accepted told, after)
-    allocate-accepted =
-        allocate-cases (λ x. (Sound d × (fault r ≡ 0) × (d .allocated ≡ 0) × (r .size ≡ d .size)) ↔ x ≡ (accepted told, after))
-        (λ m. (λ h. absurd (m (h .0)), λ e. absurd (refusal e)))
-        (λ s f. (λ h. absurd (f (h .1)), λ e. absurd (refusal e)))
-        (λ s f o. (λ h. absurd (o (h .2)), λ e. absurd (refusal e)))
-        (λ s f o l. (λ h. absurd (l (h .3)), λ e. absurd (refusal e)))
-        (λ s f o l. (λ h. refl, λ e. (s, f, o, l)))
-
     -- No other number is given, and every refusal keeps the record.
     pub allocate-refused : (n : ℕ) → allocateIn d r .0 ≡ refused n
         → ((n ≡ 2) ⊎ ((n ≡ fault r) ⊎ ((n ≡ 11) ⊎ (n ≡ 12)))) × (allocateIn d r .1 ≡ d)
@@ -182,7 +150,7 @@ module _ (d : DedicatedBlock) where
         (λ s f o e. (inr (inr (inl (sym (ap number e)))), refl)) (λ s f o l e. (inr (inr (inr (sym (ap number e)))), refl))
         (λ s f o l e. absurd (not-refused e))
 
-    -- ---- 3 to 6 in the paper's words
+    -- ---- the request in the paper's words
 
     beside : {X : Type 0} (n : ℕ) → fault r ≡ n ↔ X → 3 ≤ n → n ≤ 6 → allocateIn d r .0 ≡ refused n ↔ (Sound d × X)
     beside n x a b = let h = allocate-refused-fault n a b in (
@@ -214,6 +182,42 @@ module _ (d : DedicatedBlock) where
       allocate-refused-6 =
           beside 6 (fault-kind Pow64 r (power-of-two _ (w .alignment)) (power-of-two _ (w .granularity)))
           (omega arith) (omega arith)
+
+      -- a request without a fault is a well-formed one
+      in-order : fault r ≡ 0 ↔ WellFormed r
+      in-order = no-fault-words r w
+
+      -- 11 exactly when it is sound, the request well formed, and the block occupied.
+      pub allocate-refused-11 : allocateIn d r .0 ≡ refused 11 ↔ (Sound d × WellFormed r × (d .allocated ≢ 0))
+      allocate-refused-11 =
+          allocate-cases (λ x. x .0 ≡ refused 11 ↔ (Sound d × WellFormed r × (d .allocated ≢ 0)))
+          (λ m. (λ e. absurd (omega (arith, ap number e)), λ h. absurd (m (h .0))))
+          (λ s f. (λ e. absurd (outside (inr (omega arith)) f (ap number e)), λ h. absurd (f (in-order .1 (h .1)))))
+          (λ s f o. (λ e. (s, in-order .0 f, o), λ h. refl))
+          (λ s f o l. (λ e. absurd (omega (arith, ap number e)), λ h. absurd (h .2 o)))
+          (λ s f o l. (λ e. absurd (not-refused e), λ h. absurd (h .2 o)))
+
+      -- 12 exactly when these are so, the block is empty, and the size differs from its own.
+      pub allocate-refused-12 : allocateIn d r .0 ≡ refused 12
+          ↔ (Sound d × WellFormed r × (d .allocated ≡ 0) × (r .size ≢ d .size))
+      allocate-refused-12 =
+          allocate-cases (λ x. x .0 ≡ refused 12 ↔ (Sound d × WellFormed r × (d .allocated ≡ 0) × (r .size ≢ d .size)))
+          (λ m. (λ e. absurd (omega (arith, ap number e)), λ h. absurd (m (h .0))))
+          (λ s f. (λ e. absurd (outside (inr (omega arith)) f (ap number e)), λ h. absurd (f (in-order .1 (h .1)))))
+          (λ s f o. (λ e. absurd (omega (arith, ap number e)), λ h. absurd (o (h .2))))
+          (λ s f o l. (λ e. (s, in-order .0 f, o, l), λ h. refl))
+          (λ s f o l. (λ e. absurd (not-refused e), λ h. absurd (h .3 l)))
+
+      -- Accepted exactly otherwise: offset 0 and id 1, all of the block allocated, and the request's label.
+      pub allocate-accepted : (Sound d × WellFormed r × (d .allocated ≡ 0) × (r .size ≡ d .size))
+          ↔ allocateIn d r ≡ (accepted told, after)
+      allocate-accepted =
+          allocate-cases (λ x. (Sound d × WellFormed r × (d .allocated ≡ 0) × (r .size ≡ d .size)) ↔ x ≡ (accepted told, after))
+          (λ m. (λ h. absurd (m (h .0)), λ e. absurd (refusal e)))
+          (λ s f. (λ h. absurd (f (in-order .1 (h .1))), λ e. absurd (refusal e)))
+          (λ s f o. (λ h. absurd (o (h .2)), λ e. absurd (refusal e)))
+          (λ s f o l. (λ h. absurd (l (h .3)), λ e. absurd (refusal e)))
+          (λ s f o l. (λ h. refl, λ e. (s, in-order .0 f, o, l)))
 
 -- A well-formed alignment, granularity and kind change nothing.
 pub allocate-blind : (d : DedicatedBlock) (r q : Request) → fault r ≡ 0 → fault q ≡ 0 → r .size ≡ q .size

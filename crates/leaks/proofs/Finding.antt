@@ -1,15 +1,13 @@
 -- The search for a live chunk as a loop: the first that passes of what is ahead is the first of all. Assumes nothing.
 use Prim.Native.Nat.{ℕ}
-use mathlib.Core.Bool.{Bool, true, false, not, _&&_, cond}
+use mathlib.Core.Bool.{Bool, true, false, cond}
 use mathlib.Core.List.{List, [], _∷_}
 use mathlib.Core.Logic.{_≢_}
 use mathlib.Core.Option.{some}
 use mathlib.Core.Path.{_≡_, refl, sym, ap, _∙_}
-use borrow.Author.Tests.{eq-eqb, ne-eqb}
-use lib.Dec.{eqb, leb}
 use Rattle.model.specs.Block.{Chunk, Spot, spots}
 use Rattle.model.specs.GivingBack.{find}
-use Rattle.table.specs.Layout.{firstSlot, firstByteAt, kindAt, nextAt}
+use Rattle.table.specs.Layout.{firstSlot, nextAt}
 use Rattle.words.specs.Words.{blockOf, sound}
 use Rattle.words.specs.Spots.{InSlot, in-words}
 use Rattle.search.specs.Along.{Along, along-first, along-here, along-next, along-held, along-end}
@@ -18,24 +16,10 @@ use Rattle.search.specs.Held.{HeldIn}
 use Rattle.leaks.specs.Leaks.{isFrom, liveFrom}
 use Rattle.leaks.specs.LiveSlots.{slotFrom, isFromAt}
 
--- ---- one chunk, by the words of its slot
-
-module _ (ws : List ℕ) (k address kind : ℕ) (e : kind ≡ kindAt ws k) where
-  -- A free one is passed over.
-  pub free-passed : kind ≡ 0 → false ≡ isFromAt ws k address
-  unfolding isFromAt
-  free-passed z = rw (eq-eqb (kindAt ws k) 0 (sym e ∙ z))
-
-  -- A live one is taken if it begins at the address or later.
-  pub live-tested : kind ≢ 0 → (begin : ℕ) → begin ≡ firstByteAt ws k → leb address begin ≡ isFromAt ws k address
-  unfolding isFromAt
-  live-tested n begin f = rw (ne-eqb (kindAt ws k) 0 (λ z. n (e ∙ z)), f)
-
+-- the test by the words of a slot is that of the chunk in it
 from-spot : (ws : List ℕ) (k address : ℕ) (z : Spot) → InSlot ws k z → isFrom address z ≡ isFromAt ws k address
 unfolding isFromAt
-from-spot ws k address z h =
-    let w = in-words h in
-    sym (λ i. not (eqb (w .kind i) 0) && leb address (w .begins i))
+from-spot ws k address z h = rw (in-words h .kind, in-words h .begins)
 
 -- ---- the loop
 

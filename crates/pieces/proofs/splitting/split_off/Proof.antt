@@ -21,7 +21,7 @@ spend-id-requires : tie.Need-spend-id-requires
 spend-id-requires c κs = search needs
 
 raise-allocated-requires : tie.Need-raise-allocated-requires
-raise-allocated-requires c κs = (omega arith, rw (c .before .before .before .spend-id .ensures .1, allocated-kept) (c .before .before .before .before .before .before .before .before .before .before .before .before .pre .5))
+raise-allocated-requires c κs = (omega arith, rw (c .before .before .before .spend-id .ensures .1, allocated-kept) (omega (arith, c .before .before .before .before .before .before .before .before .before .before .before .before .pre .5)))
 
 set-slot-requires : tie.Need-set-slot-requires
 set-slot-requires c κs = search needs

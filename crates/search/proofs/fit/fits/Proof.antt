@@ -3,7 +3,7 @@ use Prim.Native.Nat.{_+_, _^_, _≤_, _<_}
 use native.Mathlib.Omega.{arith}
 use borrow.Author.Needs.{needs}
 use Rattle.model.specs.Requests.{Words}
-use Rattle.sub_allocator.specs.Requests.{requestOf}
+use Rattle.sub_allocator.specs.Requests.{requestOf, request-words}
 use Rattle.search.specs.Held.{held-slot}
 use Rattle.search.proofs.Offsets.{ends, too-long, long-enough}
 use Rattle.search.proofs.fit.fits.Statement.{statement}
@@ -11,7 +11,7 @@ use Rattle.search.proofs.fit.fits.Tie as tie
 
 -- what the request's type tells of its fields
 words : (c : tie.Start) → Words (requestOf (c .args .request))
-words c = let g = c .good .1 .1 .0 in record { alignment = g .1 .1 .1 .0 .1; granularity = g .1 .1 .1 .1 .1 .0 .1 }
+words c = request-words _ _ (c .good .1 .1 .0)
 
 -- the offset is at least the first byte, and the request ends in a 64-bit word
 bounds : (c : tie.After-offset-in) → (c .before .first-byte .result ≤ c .offset-in .result) × (c .offset-in .result + c .before .before .before .args .request .size < 2 ^ 64)
@@ -36,7 +36,7 @@ returns : tie.Need-returns
 returns c = too-long _ _ _ _ _ _ (c .before .before .before .offset-in .ensures) (rw (← (c .before .before .before .before .first-byte .ensures), ← (c .before .before .size .ensures)) (c .if1 .taken))
 
 clears-after-requires : tie.Need-clears-after-requires
-clears-after-requires c κs = (c .before .before .before .before .before .before .pre .1, c .before .before .before .before .before .before .pre .2, bounds (c .before .before .before) .1)
+clears-after-requires c κs = (c .before .before .before .before .before .before .pre .1, c .before .before .before .before .before .before .pre .2, omega (arith, bounds (c .before .before .before)))
 
 returns-2 : tie.Need-returns-2
 returns-2 c = long-enough _ _ _ _ _ _ (c .before .before .before .before .offset-in .ensures) (rw (← (c .before .before .before .before .before .first-byte .ensures), ← (c .before .before .before .size .ensures)) (c .before .if1 .left)) _ (c .clears-after .ensures)

@@ -1,7 +1,7 @@
 -- `search::fit::offset_in` meets its contract. Assumes nothing.
 use borrow.Author.Needs.{needs}
 use Rattle.model.specs.Requests.{Words}
-use Rattle.sub_allocator.specs.Requests.{requestOf}
+use Rattle.sub_allocator.specs.Requests.{requestOf, request-words}
 use Rattle.search.specs.Held.{held-slot, held-low}
 use Rattle.search.proofs.Offsets.{aligns, raises, offset-kept, offset-raised}
 use Rattle.search.proofs.fit.offset_in.Statement.{statement}
@@ -9,7 +9,7 @@ use Rattle.search.proofs.fit.offset_in.Tie as tie
 
 -- what the request's type tells of its fields
 words : (c : tie.Start) → Words (requestOf (c .args .request))
-words c = let g = c .good .1 .1 .0 in record { alignment = g .1 .1 .1 .0 .1; granularity = g .1 .1 .1 .1 .1 .0 .1 }
+words c = request-words _ _ (c .good .1 .1 .0)
 
 first-byte-requires : tie.Need-first-byte-requires
 first-byte-requires c κs = held-slot (c .before .pre .2)
