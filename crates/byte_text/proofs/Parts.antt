@@ -5,13 +5,13 @@ use mathlib.Core.List.{List, [], _∷_, _++_, append-assoc}
 use native.Mathlib.Omega.{arith}
 use native.Mathlib.Numerals.{towards-suc}
 use lib.ListN.{length, set, length-append}
-use Rattle.laws.specs.Decimal.{decimal, digit}
+use Rattle.laws.specs.Decimal.{decimal}
 use Rattle.laws.specs.Powers.{fewer}
 use borrow.Author.Tests.{lt-ltb, le-ltb, le-leb, lt-leb}
 use Rattle.laws.specs.Reply.{accepted, refused}
 use Rattle.laws.specs.Splice.{splice, splice-both, splice-sets, splice-front}
 use Rattle.byte_text.specs.declared.Shown.{Shown}
-use Rattle.byte_text.specs.ByteText.{suffix, divided, shown, hundredths, textOf, fmtBytes, fmtBytesInto}
+use Rattle.byte_text.specs.ByteText.{places, suffix, divided, shown, hundredths, textOf, fmtBytes, fmtBytesInto}
 use Rattle.byte_text.specs.ByteTextLaws.{divided-goes-on, text-length}
 
 -- ---- the places
@@ -38,12 +38,12 @@ two-letters (suc (suc (suc (suc unit)))) e = refl
 -- the digits, the places and the unit's name, one after another from the front
 pub text : (xs ys zs ws : List ℕ) (point name h unit : ℕ) → length (textOf h unit) ≤ length xs →
     point ≡ 0 + length (decimal (h / 100)) → ys ≡ splice xs 0 (decimal (h / 100)) →
-    name ≡ point + 4 → zs ≡ splice ys point (46 ∷ digit (h / 10 % 10) ∷ digit (h % 10) ∷ 32 ∷ []) →
+    name ≡ point + 4 → zs ≡ splice ys point (places h) →
     ws ≡ splice zs name (suffix unit) → ws ≡ splice xs 0 (textOf h unit)
 unfolding textOf
 text xs ys zs ws point name h unit b e a f g k =
     let d : List ℕ = decimal (h / 100) in
-    let p : List ℕ = 46 ∷ digit (h / 10 % 10) ∷ digit (h % 10) ∷ 32 ∷ [] in
+    let p : List ℕ = places h in
     let two : zs ≡ splice xs 0 (d ++ p) = splice-both xs ys zs 0 point d p (omega (arith, length-append d p, text-length h unit)) e a g in
     splice-both xs zs ws 0 name (d ++ p) (suffix unit)
     (omega (arith, length-append d p, length-append (d ++ p) (suffix unit), text-length h unit))

@@ -36,9 +36,13 @@ shown x = cond (ltb x 1024) (shownAs x 1 0) (divided 3 1 x)
 unfoldable pub hundredths : Shown → ℕ
 hundredths s = nearest (100 * s .amount) (s .over)
 
--- h hundredths of a unit: the whole part, ".", two digits, " ", the unit's name
+-- ".", two digits, " "
+abbrev pub places : ℕ → List ℕ
+places h = 46 ∷ digit (h / 10 % 10) ∷ digit (h % 10) ∷ 32 ∷ []
+
+-- h hundredths of a unit: the whole part, the places, the unit's name
 unfoldable pub textOf : ℕ → ℕ → List ℕ
-textOf h unit = decimal (h / 100) ++ (46 ∷ digit (h / 10 % 10) ∷ digit (h % 10) ∷ 32 ∷ suffix unit)
+textOf h unit = decimal (h / 100) ++ (places h ++ suffix unit)
 
 -- the text of x bytes
 unfoldable pub fmtBytes : ℕ → List ℕ

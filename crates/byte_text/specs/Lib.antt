@@ -1,4 +1,6 @@
 -- What the contracts of `byte_text` cite. Assumes nothing.
 pub mod ByteText
 pub mod ByteTextLaws
+pub mod Reader
+pub mod ReadBack
 pub mod ByteTextExamples

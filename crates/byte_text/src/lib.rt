@@ -2,13 +2,12 @@
 use decimal_text;
 ghost use mathlib.Core.Path.{_≡_};
 ghost use mathlib.Core.List.{_∷_, []};
-ghost use Prim.Native.Nat.{_+_, _^_, _<_, _≤_, _%_, _/_};
+ghost use Prim.Native.Nat.{_+_, _^_, _<_, _≤_};
 ghost use lib.ListN.{length};
 ghost use Rattle.laws.specs.Nearest.{nearest};
 ghost use Rattle.laws.specs.Reply.{number};
-ghost use Rattle.laws.specs.Decimal.{digit};
 ghost use Rattle.laws.specs.Splice.{splice};
-ghost use Rattle.byte_text.specs.ByteText.{suffix, shown, hundredths, textOf, reply, fmtBytesInto};
+ghost use Rattle.byte_text.specs.ByteText.{suffix, shown, hundredths, places, textOf, reply, fmtBytesInto};
 ghost use Rattle.byte_text.specs.ByteTextLaws.{Bounded};
 
 // The number of bytes written, or the refusal's number.
@@ -102,7 +101,7 @@ fn text_len(h: u64, unit: u64) -> usize
 // Stores the two places behind the point, between "." and " ".
 fn put_places(buf: &mut [u8], at: usize, h: u64) -> usize
     requires { ⌜ at + 4 ≤ length (now buf) ⌝ }
-    ensures { λ r. ⌜ (r ≡ at + 4) × (now (buf .exit) ≡ splice (now (buf .entry)) at (46 ∷ digit (h / 10 % 10) ∷ digit (h % 10) ∷ 32 ∷ [])) ⌝ }
+    ensures { λ r. ⌜ (r ≡ at + 4) × (now (buf .exit) ≡ splice (now (buf .entry)) at (places h)) ⌝ }
 {
     buf[at] = b'.';
     buf[at + 1] = (48 + h / 10 % 10) as u8;

@@ -1,20 +1,19 @@
 -- The chains of the buckets: that they hold every slot entered, each under its id. Assumes nothing.
-use Prim.Native.Nat.{ℕ, zero, suc, _+_, _-_, _%_, _≤_, _<_}
+use Prim.Native.Nat.{ℕ, zero, suc, _+_, _-_, _≤_, _<_}
 use native.Mathlib.Omega.{arith}
-use native.Mathlib.Nat.{mod-lt}
 use native.Mathlib.Numerals.{sub-one}
 use mathlib.Core.Bool.{Bool, true, false, not, cond}
 use mathlib.Core.List.{List, [], _∷_}
 use mathlib.Core.Logic.{_≢_, _⊎_, ⊎-elim}
 use mathlib.Core.Path.{_≡_, refl, sym, ap, _∙_}
 use borrow.Author.Tests.{eq-eqb, ne-eqb}
-use lib.Dec.{eqb, lit<}
-use lib.ListN.{length, getD, set, length-set}
+use lib.Dec.{eqb}
+use lib.ListN.{length, drop, getD, set, length-set}
 use lib.Seq.{getD-set-same, getD-set-other, set-out}
 use Rattle.laws.specs.Members.{has, has-head, has-same, has-other, not-head, eq-or-not}
 use Rattle.laws.specs.Tests.{cond-cases, either}
 use Rattle.table.specs.Layout.{idAt}
-use Rattle.words.specs.Ids.{AllAtMost, AllZero, headOf, linkOf, chain, idsAt, onChain, isNew, entered}
+use Rattle.words.specs.Ids.{AllAtMost, AllZero, bucketOf, bucket-below, headOf, linkOf, chain, Ends, AllEnd, idsAt, onChain, isNew, entered}
 
 -- ---- `on_chain`
 
@@ -34,34 +33,81 @@ module _ (ws t : List ℕ) (n k id : ℕ) where
   unfolding onChain has
   chain-ends e = ap (λ (l : List ℕ). has id (idsAt ws l)) (ap (chain n t) e ∙ ends t n)
 
-  pub chain-spent : n ≡ 0 → onChain ws t n k id ≡ false
-  unfolding onChain chain has
-  chain-spent e = rw e
-
   pub chain-here : n ≢ 0 → k ≢ 0 → idAt ws k ≡ id → onChain ws t n k id ≡ true
   unfolding onChain
   chain-here f g e = ap (λ (l : List ℕ). has id (idsAt ws l)) (next t n k f g) ∙ rw e (has-head id _)
 
-  pub chain-on : n ≢ 0 → k ≢ 0 → idAt ws k ≢ id → onChain ws t n k id ≡ onChain ws t (n - 1) (getD t (linkOf k) 0) id
+  chain-on : n ≢ 0 → k ≢ 0 → idAt ws k ≢ id → onChain ws t n k id ≡ onChain ws t (n - 1) (getD t (linkOf k) 0) id
   unfolding onChain
   chain-on f g e = ap (λ (l : List ℕ). has id (idsAt ws l)) (next t n k f g) ∙ has-other id (idAt ws k) _ e
 
+-- A chain that ended goes no further.
+ended : (t : List ℕ) (n k : ℕ) → chain (suc n) t k ≡ chain n t k → chain (suc (suc n)) t k ≡ chain (suc n) t k
+unfolding chain
+ended t zero zero e = refl
+ended t zero (suc k) e = let l : suc zero ≡ zero = ap length e in absurd (omega arith)
+ended t (suc n) zero e = refl
+ended t (suc n) (suc k) e = ap (λ (l : List ℕ). suc k ∷ l) (ended t n (getD t (linkOf (suc k)) 0) (ap (drop 1) e))
+
+-- The chain goes on by a link, one slot shorter.
+module _ (t : List ℕ) (k : ℕ) (some : k ≢ 0) (ends-k : Ends t k) where
+  after : ℕ
+  after = getD t (linkOf k) 0
+
+  now : chain 512 t k ≡ k ∷ chain 511 t after
+  unfolding after
+  now = next t 512 k (λ (e : 512 ≡ 0). omega arith) some
+
+  short : chain 512 t after ≡ chain 511 t after
+  unfolding after
+  short = ap (drop 1) (sym (next t 513 k (λ (e : 513 ≡ 0). omega arith) some) ∙ ends-k ∙ now)
+
+  pub ends-on : Ends t (getD t (linkOf k) 0)
+  unfolding after
+  ends-on = ended t 511 after short
+
+  pub shorter : length (chain 512 t (getD t (linkOf k) 0)) < length (chain 512 t k)
+  unfolding after
+  shorter = omega (arith, ap length now, ap length short)
+
+  pub chain-after : (ws : List ℕ) (id : ℕ) → idAt ws k ≢ id → onChain ws t 512 k id ≡ onChain ws t 512 (getD t (linkOf k) 0) id
+  unfolding after onChain
+  chain-after ws id n = chain-on ws t 512 k id (λ (e : 512 ≡ 0). omega arith) some n ∙ ap (λ (l : List ℕ). has id (idsAt ws l)) (sym short)
+
 -- ---- `enter`
 
-module _ (ws t : List ℕ) (k id : ℕ) (e : id ≡ idAt ws k) where
-  by-chain : not (onChain ws t 512 (getD t (id % 512) 0) id) ≡ isNew ws t k
-  unfolding isNew
-  by-chain = ap (λ (i : ℕ). not (onChain ws t 512 (getD t (i % 512) 0) i)) e
+-- A head that is written leaves the chains.
+chain-head : (t : List ℕ) (h x n k : ℕ) → h < 512 → chain n (set t h x) k ≡ chain n t k
+unfolding chain
+chain-head t h x zero k l = refl
+chain-head t h x (suc n) zero l = refl
+chain-head t h x (suc n) (suc k) l =
+    ap (λ (j : ℕ). suc k ∷ chain n (set t h x) j) (getD-set-other t h (linkOf (suc k)) x 0 (λ (e : linkOf (suc k) ≡ h). omega arith))
+    ∙ ap (λ (ks : List ℕ). suc k ∷ ks) (chain-head t h x n (getD t (linkOf (suc k)) 0) l)
 
-  pub met : (b : Bool) → b ≡ onChain ws t 512 (getD t (id % 512) 0) id → b ≡ true → false ≡ isNew ws t k
-  met b f h = ap not (sym h ∙ f) ∙ by-chain
+pub ends-head : (t : List ℕ) (h x : ℕ) → h < 512 → AllEnd t → Ends (set t h x) (getD t h 0)
+ends-head t h x l a = chain-head t h x 513 (getD t h 0) l ∙ a h l ∙ sym (chain-head t h x 512 (getD t h 0) l)
 
-  pub not-met : (b : Bool) → b ≡ onChain ws t 512 (getD t (id % 512) 0) id → b ≡ false → true ≡ isNew ws t k
-  not-met b f h = ap not (sym h ∙ f) ∙ by-chain
+module _ (ws t : List ℕ) (k id h : ℕ) (e : id ≡ idAt ws k) (f : h ≡ bucketOf id) where
+  heads : h ≡ headOf ws k
+  heads = f ∙ ap bucketOf e
 
-  pub stored : set (set t (511 + k) (getD t (id % 512) 0)) (id % 512) k ≡ entered ws t k
+  by-chain : not (onChain ws (set t h k) 512 (getD t h 0) id) ≡ isNew ws t k
+  unfolding isNew onChain
+  by-chain =
+      ap (λ (ks : List ℕ). not (has id (idsAt ws ks))) (chain-head t h k 512 (getD t h 0) (rw f (bucket-below id)))
+      ∙ ap (λ (i : ℕ). not (has i (idsAt ws (chain 512 t (getD t h 0))))) e
+      ∙ ap (λ (i : ℕ). not (has (idAt ws k) (idsAt ws (chain 512 t (getD t i 0))))) heads
+
+  pub met : (b : Bool) → b ≡ onChain ws (set t h k) 512 (getD t h 0) id → b ≡ true → false ≡ isNew ws t k
+  met b g l = ap not (sym l ∙ g) ∙ by-chain
+
+  pub not-met : (b : Bool) → b ≡ onChain ws (set t h k) 512 (getD t h 0) id → b ≡ false → true ≡ isNew ws t k
+  not-met b g l = ap not (sym l ∙ g) ∙ by-chain
+
+  pub stored : set (set t h k) (511 + k) (getD t h 0) ≡ entered ws t k
   unfolding entered
-  stored = ap (λ (i : ℕ). set (set t (511 + k) (getD t (i % 512) 0)) (i % 512) k) e
+  stored = ap (λ (i : ℕ). set (set t i k) (511 + k) (getD t i 0)) heads
 
 -- ---- what the buckets hold
 
@@ -84,18 +130,18 @@ unfolding inBucket
 bucket-there ws h v vs n = rw (ne-eqb (headOf ws v) h n)
 
 -- An id is among all exactly when it is among those of its bucket.
-bucket-ids : (ws : List ℕ) (id : ℕ) (vs : List ℕ) → has id (idsAt ws (inBucket ws (id % 512) vs)) ≡ has id (idsAt ws vs)
+bucket-ids : (ws : List ℕ) (id : ℕ) (vs : List ℕ) → has id (idsAt ws (inBucket ws (bucketOf id) vs)) ≡ has id (idsAt ws vs)
 unfolding inBucket
 bucket-ids ws id [] = refl
 bucket-ids ws id (v ∷ vs) =
     ⊎-elim
-    (λ (e : headOf ws v ≡ id % 512).
-    ap (λ (l : List ℕ). has id (idsAt ws l)) (bucket-here ws (id % 512) v vs e)
-    ∙ has-same id (idAt ws v) (idsAt ws (inBucket ws (id % 512) vs)) (idsAt ws vs) (bucket-ids ws id vs))
+    (λ (e : headOf ws v ≡ bucketOf id).
+    ap (λ (l : List ℕ). has id (idsAt ws l)) (bucket-here ws (bucketOf id) v vs e)
+    ∙ has-same id (idAt ws v) (idsAt ws (inBucket ws (bucketOf id) vs)) (idsAt ws vs) (bucket-ids ws id vs))
     (λ n.
-    ap (λ (l : List ℕ). has id (idsAt ws l)) (bucket-there ws (id % 512) v vs n) ∙ bucket-ids ws id vs
-    ∙ sym (has-other id (idAt ws v) (idsAt ws vs) (λ q. n (ap (λ (i : ℕ). i % 512) q))))
-    (eq-or-not (headOf ws v) (id % 512))
+    ap (λ (l : List ℕ). has id (idsAt ws l)) (bucket-there ws (bucketOf id) v vs n) ∙ bucket-ids ws id vs
+    ∙ sym (has-other id (idAt ws v) (idsAt ws vs) (λ q. n (ap bucketOf q))))
+    (eq-or-not (headOf ws v) (bucketOf id))
 
 -- A slot that is not in the list is in no bucket.
 bucket-none : (ws : List ℕ) (h k : ℕ) (vs : List ℕ) → has k vs ≡ false → has k (inBucket ws h vs) ≡ false
@@ -110,46 +156,48 @@ pub chains-start : (ws t : List ℕ) → length t ≡ 1024 → AllZero t → Cha
 unfolding inBucket
 chains-start ws t l z = record { long = l; reach = λ h m p q. ap (chain m t) (z h) ∙ ends t m }
 
+pub all-end : (ws t vs : List ℕ) → Chains ws t vs → length vs ≤ 512 → AllEnd t
+all-end ws t vs c l h p = c .reach h 513 p (omega arith) ∙ sym (c .reach h 512 p l)
+
 -- Where no slot has the id, it is new to the buckets, and where one has, it is not.
 pub new-id : (ws t vs : List ℕ) (k : ℕ) → Chains ws t vs → length vs ≤ 512 → isNew ws t k ≡ not (has (idAt ws k) (idsAt ws vs))
 unfolding isNew onChain
 new-id ws t vs k c l =
-    ap (λ (ks : List ℕ). not (has (idAt ws k) (idsAt ws ks))) (c .reach (headOf ws k) 512 (mod-lt (idAt ws k) (lit< tt)) l)
+    ap (λ (ks : List ℕ). not (has (idAt ws k) (idsAt ws ks))) (c .reach (headOf ws k) 512 (bucket-below (idAt ws k)) l)
     ∙ ap not (bucket-ids ws (idAt ws k) vs)
 
 -- ---- a slot is entered
 
 module _ (ws t vs : List ℕ) (k : ℕ) (low : 1 ≤ k) (high : k ≤ 512) (long : length t ≡ 1024) where
   head : headOf ws k < 512
-  head = mod-lt (idAt ws k) (lit< tt)
+  head = bucket-below (idAt ws k)
 
   mid : List ℕ
-  mid = set t (linkOf k) (getD t (headOf ws k) 0)
+  mid = set t (headOf ws k) k
 
   mid-long : length mid ≡ 1024
   unfolding mid
-  mid-long = length-set t (linkOf k) (getD t (headOf ws k) 0) ∙ long
+  mid-long = length-set t (headOf ws k) k ∙ long
 
   head-now : getD (entered ws t k) (headOf ws k) 0 ≡ k
   unfolding entered mid
-  head-now = getD-set-same mid (headOf ws k) k 0 (omega (arith, head, mid-long))
+  head-now =
+      getD-set-other mid (linkOf k) (headOf ws k) (getD t (headOf ws k) 0) 0 (λ (e : headOf ws k ≡ linkOf k). omega (arith, head))
+      ∙ getD-set-same t (headOf ws k) k 0 (omega (arith, head))
 
   head-other : (h : ℕ) → h < 512 → h ≢ headOf ws k → getD (entered ws t k) h 0 ≡ getD t h 0
   unfolding entered mid
-  head-other h p n =
-      getD-set-other mid (headOf ws k) h k 0 n ∙ getD-set-other t (linkOf k) h (getD t (headOf ws k) 0) 0 (λ (e : h ≡ linkOf k). omega arith)
+  head-other h p n = getD-set-other mid (linkOf k) h (getD t (headOf ws k) 0) 0 (λ (e : h ≡ linkOf k). omega arith) ∙ getD-set-other t (headOf ws k) h k 0 n
 
   link-now : getD (entered ws t k) (linkOf k) 0 ≡ getD t (headOf ws k) 0
   unfolding entered mid
-  link-now =
-      getD-set-other mid (headOf ws k) (linkOf k) k 0 (λ (e : linkOf k ≡ headOf ws k). omega (arith, head))
-      ∙ getD-set-same t (linkOf k) (getD t (headOf ws k) 0) 0 (omega arith)
+  link-now = getD-set-same mid (linkOf k) (getD t (headOf ws k) 0) 0 (omega (arith, mid-long))
 
   link-other : (j : ℕ) → 1 ≤ j → j ≢ k → getD (entered ws t k) (linkOf j) 0 ≡ getD t (linkOf j) 0
   unfolding entered mid
   link-other j l n =
-      getD-set-other mid (headOf ws k) (linkOf j) k 0 (λ (e : linkOf j ≡ headOf ws k). omega (arith, head))
-      ∙ getD-set-other t (linkOf k) (linkOf j) (getD t (headOf ws k) 0) 0 (λ (e : linkOf j ≡ linkOf k). n (omega arith))
+      getD-set-other mid (linkOf k) (linkOf j) (getD t (headOf ws k) 0) 0 (λ (e : linkOf j ≡ linkOf k). n (omega arith))
+      ∙ getD-set-other t (headOf ws k) (linkOf j) k 0 (λ (e : linkOf j ≡ headOf ws k). omega (arith, head))
 
   -- A chain without the slot stays.
   chain-kept : (m j : ℕ) → has k (chain m t j) ≡ false → chain m (entered ws t k) j ≡ chain m t j
@@ -170,7 +218,7 @@ module _ (ws t vs : List ℕ) (k : ℕ) (low : 1 ≤ k) (high : k ≤ 512) (long
   pub chains-enter : Chains ws t vs → has k vs ≡ false → Chains ws (entered ws t k) (k ∷ vs)
   unfolding entered mid
   chains-enter c e = record {
-    long = length-set mid (headOf ws k) k ∙ mid-long;
+    long = length-set mid (linkOf k) (getD t (headOf ws k) 0) ∙ mid-long;
     reach = λ h m p q. ⊎-elim (here h m p q) (there h m p q) (eq-or-not h (headOf ws k));
   }
     where
@@ -192,7 +240,7 @@ module _ (ws t vs : List ℕ) (k : ℕ) (low : 1 ≤ k) (high : k ≤ 512) (long
 
 -- ---- every head and link stays a slot
 
-within-set : (s : ℕ) (t : List ℕ) (i x : ℕ) → AllAtMost s t → x ≤ s → AllAtMost s (set t i x)
+pub within-set : (s : ℕ) (t : List ℕ) (i x : ℕ) → AllAtMost s t → x ≤ s → AllAtMost s (set t i x)
 within-set s t i x w l j = ⊎-elim same-place (λ n. rw (getD-set-other t i j x 0 n) (w j)) (eq-or-not j i)
   where
     same-place : j ≡ i → getD (set t i x) j 0 ≤ s
@@ -204,4 +252,4 @@ within-set s t i x w l j = ⊎-elim same-place (λ n. rw (getD-set-other t i j x
 pub within-entered : (ws t : List ℕ) (s k : ℕ) → AllAtMost s t → k ≤ s → AllAtMost s (entered ws t k)
 unfolding entered
 within-entered ws t s k w l =
-    within-set s (set t (linkOf k) (getD t (headOf ws k) 0)) (headOf ws k) k (within-set s t (linkOf k) (getD t (headOf ws k) 0) w (w (headOf ws k))) l
+    within-set s (set t (headOf ws k) k) (linkOf k) (getD t (headOf ws k) 0) (within-set s t (headOf ws k) k w l) (w (headOf ws k))

@@ -14,11 +14,11 @@ use Rattle.model.specs.Block.{liveSize}
 use Rattle.table.specs.Layout.{isTable, table-shape, slotCount, Slot, blockSize, nextId, firstSlot, idAt, sizeAt, firstByteAt, kindAt, nextAt}
 use Rattle.words.specs.Words.{chunkAt}
 use Rattle.words.specs.Checks.{upTo, linksOk, kindOk, stepOk, chunksWalked}
-use Rattle.words.specs.Ids.{AllAtMost, AllZero, isNew, entered, idsAt}
+use Rattle.words.specs.Ids.{AllEnd, AllAtMost, AllZero, isNew, entered, idsAt}
 use Rattle.walking.specs.Answers.{liveOf, walkEnd}
 use Rattle.words.specs.Walking.{Walking, start, unvisited, stop, too-long, go-on, ends, broken}
 use Rattle.walking.specs.declared.Live.the-variants.{Bytes, Broken}
-use Rattle.walking.proofs.Chains.{Chains, chains-start, chains-enter, new-id, within-entered}
+use Rattle.walking.proofs.Chains.{all-end, Chains, chains-start, chains-enter, new-id, within-entered}
 
 -- the walk so far, with the slots that it met in the buckets; n is their number
 pub record Turn (ws t : List ℕ) (prev k first before sum n : ℕ) : Type 0 where
@@ -68,6 +68,9 @@ exact-end first size end f s e l = omega arith
 module _ {ws t : List ℕ} {prev k first before sum n : ℕ} (turn : Turn ws t prev k first before sum n) where
   fits : isTable ws ≡ true → length (turn .visited) ≤ 512
   fits e = omega (arith, turn .walking .fuel, table-shape ws e)
+
+  pub ending : isTable ws ≡ true → AllEnd t
+  ending e = all-end ws t (turn .visited) (turn .chains) (fits e)
 
   pub bad-links : Slot ws k → linksOk ws prev first k ≡ false → 0 ≡ chunksWalked ws
   unfolding stepOk

@@ -1,5 +1,6 @@
 -- Ids by buckets: a list of 512 heads, then a link for each slot. Assumes nothing.
-use Prim.Native.Nat.{ℕ, zero, suc, _+_, _%_, _≤_}
+use Prim.Native.Nat.{ℕ, zero, suc, _+_, _*_, _/_, _%_, _^_, _≤_, _<_}
+use native.Mathlib.Omega.{arith}
 use mathlib.Core.Bool.{Bool, not}
 use mathlib.Core.List.{List, [], _∷_, map}
 use mathlib.Core.Path.{_≡_}
@@ -15,9 +16,18 @@ AllAtMost slots t = (i : ℕ) → getD t i 0 ≤ slots
 abbrev pub AllZero : List ℕ → Type 0
 AllZero t = (i : ℕ) → getD t i 0 ≡ 0
 
+-- the bucket of an id: the top nine bits of 64 of a product, by a factor that spreads ids in a stride
+unfoldable pub bucketOf : ℕ → ℕ
+bucketOf id = id * (2 ^ 4 + 1) * (2 ^ 11 + 1) * (2 ^ 18 + 1) * (2 ^ 36 + 1) * (2 ^ 41 + 1) % 2 ^ 64 / 2 ^ 55
+
+-- It is one of 512.
+pub bucket-below : (id : ℕ) → bucketOf id < 512
+unfolding bucketOf
+bucket-below id = omega arith
+
 -- the head of slot k's bucket, and where k's link stands
 abbrev pub headOf : List ℕ → ℕ → ℕ
-headOf ws k = idAt ws k % 512
+headOf ws k = bucketOf (idAt ws k)
 
 abbrev pub linkOf : ℕ → ℕ
 linkOf k = 511 + k
@@ -27,6 +37,13 @@ unfoldable pub chain : ℕ → List ℕ → ℕ → List ℕ
 chain zero t k = []
 chain (suc n) t zero = []
 chain (suc n) t (suc k) = suc k ∷ chain n t (getD t (linkOf (suc k)) 0)
+
+-- the chain from slot k ends within 512 slots, and so does each from a head
+abbrev pub Ends : List ℕ → ℕ → Type 0
+Ends t k = chain 513 t k ≡ chain 512 t k
+
+abbrev pub AllEnd : List ℕ → Type 0
+AllEnd t = (h : ℕ) → h < 512 → Ends t (getD t h 0)
 
 abbrev pub idsAt : List ℕ → List ℕ → List ℕ
 idsAt ws ks = map (idAt ws) ks
@@ -40,4 +57,4 @@ isNew ws t k = not (onChain ws t 512 (getD t (headOf ws k) 0) (idAt ws k))
 
 -- slot k comes first in its bucket
 unfoldable pub entered : List ℕ → List ℕ → ℕ → List ℕ
-entered ws t k = set (set t (linkOf k) (getD t (headOf ws k) 0)) (headOf ws k) k
+entered ws t k = set (set t (headOf ws k) k) (linkOf k) (getD t (headOf ws k) 0)

@@ -6,7 +6,7 @@ use borrow.Author.Needs.{needs}
 use denote.Ref.{now}
 use Rattle.table.specs.Layout.{at, Slot}
 use Rattle.laws.specs.Tests.{failed, passed}
-use Rattle.walking.proofs.Turns.{Turn, first-turn, is-slot, bad-links, bad-id, known-id, bad-size, bad-kind, Passed, exactly, next-turn, live-fits, count-fits, last-turn}
+use Rattle.walking.proofs.Turns.{ending, Turn, first-turn, is-slot, bad-links, bad-id, known-id, bad-size, bad-kind, Passed, exactly, next-turn, live-fits, count-fits, last-turn}
 use Rattle.walking.proofs.walk.Statement.{statement}
 use Rattle.walking.proofs.walk.Tie as tie
 
@@ -51,7 +51,10 @@ returns-2 : tie.Need-returns-2 Inv-loop μ-loop
 returns-2 c = bad-id (c .before .before .before .before .before .before .before .loop .inv) (slot (c .before .before .before .before .before)) (rw (← (c .before .before .id .ensures), ← (c .before .before .before .before .before .before .before .before .before .next-id .ensures)) (failed (c .before .is-up-to2 .ensures) (c .if3 .taken)))
 
 enter-requires : tie.Need-enter-requires Inv-loop μ-loop
-enter-requires c κs = (c .before .before .before .before .before .before .before .before .before .before .before .before .pre .0, c .before .before .before .before .before .before .before .before .loop .inv .within, slot (c .before .before .before .before .before .before))
+enter-requires c κs =
+    let table = c .before .before .before .before .before .before .before .before .before .before .before .before .pre .0 in
+    let turn = c .before .before .before .before .before .before .before .before .loop .inv in
+    (table, turn .within, ending turn table, slot (c .before .before .before .before .before .before))
 
 returns-3 : tie.Need-returns-3 Inv-loop μ-loop
 returns-3 c = known-id (c .before .before .before .before .before .before .before .before .before .before .loop .inv) (c .before .before .before .before .before .before .before .before .before .before .before .before .before .before .pre .0) (slot (c .before .before .before .before .before .before .before .before)) (failed (c .before .enter .ensures .0) (c .if4 .taken))

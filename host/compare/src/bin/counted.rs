@@ -1,6 +1,7 @@
-//! `counted`: names some tables, each with its number of words. `counted TABLE CALL`: makes a call on
-//! the table as it is, once for each of some requests or ids, and prints how often. The script `count`,
-//! beside Cargo.toml, counts the instructions.
+//! `counted`: names some tables, each with its number of words. `counted strides`: numbers of which each
+//! names a full table, with ids in this stride. `counted TABLE CALL`: makes a call on the table as it is,
+//! once for each of some requests or ids, and prints how often. The script `count`, beside Cargo.toml,
+//! counts the instructions.
 
 use std::backtrace::Backtrace;
 use std::env;
@@ -14,7 +15,7 @@ use lunkaseyo_compare::generator::shuffle_slots;
 use lunkaseyo_compare::leaks;
 use lunkaseyo_compare::random::Random;
 use lunkaseyo_compare::rust::{self, AllocationReport, FreeListAllocator, Request, SubAllocator};
-use lunkaseyo_compare::table::Table;
+use lunkaseyo_compare::table::{Table, MOST_SLOTS};
 use lunkaseyo_compare::tracked::{Placed, Tracked};
 
 /// A call that is counted, by its name. It gives how often it was made.
@@ -42,17 +43,33 @@ const SIZE: u64 = 1 << 24;
 fn main() {
     let arguments: Vec<String> = env::args().skip(1).collect();
     let [name, call] = &arguments[..] else {
-        for (name, table) in tables() {
-            println!("{name} {}", table.words().len());
-        }
+        name_tables(!arguments.is_empty());
         return;
     };
-    let table = tables().into_iter().find(|(named, _)| named == name);
-    let (_, table) = table.expect("counted alone names the tables");
+    let table = match name.parse() {
+        Ok(stride) => in_stride(stride),
+        Err(_) => named(name),
+    };
     let call = CALLS.into_iter().find(|(named, _)| named == call);
     let names = CALLS.map(|(name, _)| name).join(", ");
     let (_, make) = call.unwrap_or_else(|| panic!("the calls are {names}"));
     println!("{}", make(&table));
+}
+
+/// Those in a stride, or the others with their words.
+fn name_tables(in_strides: bool) {
+    if in_strides {
+        strides().for_each(|stride| println!("{stride}"));
+        return;
+    }
+    for (name, table) in tables() {
+        println!("{name} {}", table.words().len());
+    }
+}
+
+fn named(name: &str) -> Table {
+    let table = tables().into_iter().find(|(named, _)| named == name);
+    table.expect("counted alone names the tables").1
 }
 
 // ---- the calls that are counted, which the script finds by these names
@@ -222,6 +239,30 @@ fn tables() -> Vec<(String, Table)> {
         tables.push((format!("{chunks}-of-{slots}-shuffled"), table));
     }
     tables
+}
+
+/// Powers of two, and some sizes that a record of a few words has.
+fn strides() -> impl Iterator<Item = u64> {
+    (0..=20).map(|power| 1 << power).chain(vec![40, 80, 120])
+}
+
+/// As many chunks as a table can have, the last one free, with ids from 1 on in this stride.
+fn in_stride(stride: u64) -> Table {
+    let mut requests = Random::seeded(SIZE);
+    let mut block = Tracked::new(2 * SIZE, MOST_SLOTS);
+    while !block.is_full() {
+        placed(&mut block, any_request(&mut requests));
+    }
+    let mut table = block.table();
+    let ids = (0..).map(|place| 1 + place * stride);
+    table.next_id = 1 + MOST_SLOTS as u64 * stride;
+    table
+        .chunks
+        .iter_mut()
+        .zip(ids)
+        .for_each(|(chunk, id)| chunk.id = id);
+    assert_eq!(table.chunks.len(), MOST_SLOTS);
+    table
 }
 
 /// A block of this many chunks, an even number, of which every other one is free.

@@ -1,0 +1,36 @@
+-- `walking::ids::bucket` meets its contract. Assumes nothing.
+use borrow.Author.Needs.{needs}
+use Rattle.walking.proofs.Buckets.{spread-is}
+use Rattle.walking.proofs.ids.bucket.Statement.{statement}
+use Rattle.walking.proofs.ids.bucket.Tie as tie
+
+with-shifted-requires : tie.Need-with-shifted-requires
+with-shifted-requires c κs = search needs
+
+with-shifted-requires-2 : tie.Need-with-shifted-requires-2
+with-shifted-requires-2 c κs = search needs
+
+with-shifted-requires-3 : tie.Need-with-shifted-requires-3
+with-shifted-requires-3 c κs = search needs
+
+with-shifted-requires-4 : tie.Need-with-shifted-requires-4
+with-shifted-requires-4 c κs = search needs
+
+with-shifted-requires-5 : tie.Need-with-shifted-requires-5
+with-shifted-requires-5 c κs = search needs
+
+returns : tie.Need-returns
+returns c =
+    spread-is _ _ _ _ _ _ (c .before .before .before .before .with-shifted .ensures) (c .before .before .before .with-shifted2 .ensures)
+    (c .before .before .with-shifted3 .ensures) (c .before .with-shifted4 .ensures) (c .with-shifted5 .ensures)
+
+pub bucket-spec : {M : Type 1} → statement M
+bucket-spec =
+    tie.close
+    (tie.spec
+    with-shifted-requires
+    with-shifted-requires-2
+    with-shifted-requires-3
+    with-shifted-requires-4
+    with-shifted-requires-5
+    returns)
