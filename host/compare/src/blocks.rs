@@ -281,7 +281,12 @@ impl fmt::Display for Line {
                     Call::Free(id) => write!(f, "7 {id} {number}"),
                     Call::Rename(id, label) => write!(f, "8 {id} {label} {number}"),
                 }?;
-                write!(f, " {} {}", step.after.allocated, checksum(&step.after.words()))
+                write!(
+                    f,
+                    " {} {}",
+                    step.after.allocated,
+                    checksum(&step.after.words())
+                )
             }
         }
     }

@@ -5,9 +5,7 @@ use std::collections::{HashMap, HashSet};
 use std::num::NonZeroU64;
 use std::sync::Arc;
 
-use crate::rust::{
-    self, AllocationError, FreeListAllocator, MemoryChunk, Request, SubAllocator,
-};
+use crate::rust::{self, AllocationError, FreeListAllocator, MemoryChunk, Request, SubAllocator};
 use crate::table::{Chunk, Table};
 
 /// A block of the Rust. Slots follow the rules of tables: a new chunk takes the lowest empty slot,
