@@ -1,2 +1,4 @@
--- The walk that the proofs of `dedicated_lent` share.
+-- What the proofs of `dedicated_lent` share: the structs that are returned, and the two walks.
+pub mod Results
 pub mod HandedOn
+pub mod LentOut

@@ -1,4 +1,6 @@
 // The calls that write a dedicated block's record, on one that the caller lends: thin, over those by value.
+pub mod kept;
+
 use dedicated::record::DedicatedBlock;
 use dedicated_by_value;
 use sub_allocator::answers::Changed;

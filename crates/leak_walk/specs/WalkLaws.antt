@@ -9,10 +9,11 @@ use Rattle.laws.specs.Reply.{Reply, refused}
 use Rattle.words.specs.Soundness.{Sound}
 use Rattle.words.specs.Checked.{sound-exactly}
 use Rattle.opening.specs.Fault.{no-fault, is-fit, unfit}
+use Rattle.opening.specs.Look.{tableFault}
 use Rattle.opening.specs.Looked.{TableWords, table-exactly}
-use Rattle.leaks.specs.Leaks.{Live, leakOn}
+use Rattle.leaks.specs.Leaks.{Live, leakOn, stepOn}
 use Rattle.leaks.specs.Walked.{walkOn}
-use Rattle.leak_walk.specs.Walks.{startOf, stepOf, walkOf}
+use Rattle.leak_walk.specs.Walks.{startOf, stepOf, beginOf, walkOf}
 use Rattle.leak_walk.specs.declared.Walk.{Walk}
 
 -- From the start the struct's steps answer what steps from address 0 on do.
@@ -22,6 +23,10 @@ walk-struct words n = go (startOf words) n
     go : (w : Walk) (n : ℕ) → walkOf w n ≡ walkOn (now (w .words)) (w .place) n
     go w zero = refl
     go w (suc n) = ap (λ (r : List (Reply (Option Live))). stepOf w .0 ∷ r) (go (stepOf w .1) n)
+
+-- What a walk begins with is the fault of the words and the step from address 0.
+pub begin-steps : (words : RefT (List ℕ)) → beginOf words ≡ (tableFault (now words), stepOn (now words) 0)
+begin-steps words = refl
 
 -- ---- the start
 

@@ -5,7 +5,7 @@ use leaks::steps::Stepped;
 use opening::look;
 ghost use mathlib.Core.Path.{_≡_};
 ghost use Rattle.leaks.specs.Leaks.{replyLeak, stepOn, stepped};
-ghost use Rattle.leak_walk.specs.Walks.{startOf, stepOf};
+ghost use Rattle.leak_walk.specs.Walks.{startOf, stepOf, begun, beginOf};
 
 // place: an address, from which on nothing is handed out yet; fault: what the table was refused for at the start, 0 for nothing.
 pub struct Walk<'a> {
@@ -44,6 +44,26 @@ pub fn step_from(words: &[u64], place: u64) -> Stepped
     };
     let leak = step(&mut walk);
     Stepped {
+        leak,
+        place: walk.place,
+    }
+}
+
+// What a walk begins with: what its start is refused for, 0 for nothing, and its first step.
+pub struct Begun {
+    pub fault: u64,
+    pub leak: Leak,
+    pub place: u64,
+}
+
+// A start and a step for such a caller.
+pub fn begin(words: &[u64]) -> Begun
+    ensures { λ r. ⌜ begun r ≡ beginOf (words .entry) ⌝ }
+{
+    let mut walk = start(words);
+    let leak = step(&mut walk);
+    Begun {
+        fault: walk.fault,
         leak,
         place: walk.place,
     }

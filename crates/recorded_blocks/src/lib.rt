@@ -11,6 +11,7 @@ use stores;
 use sub_allocator::answers::Placement;
 use sub_allocator::answers::Total;
 use sub_allocator::request::Request;
+use table::layout;
 
 // What a line came to, and how many words of the store the next one finds a block on: 0 where there is none.
 pub struct Outcome {
@@ -23,31 +24,30 @@ fn words_of(slots: u64) -> usize {
     if slots == 0 {
         return 0;
     }
-    if 512 < slots {
+    if layout::MOST_SLOTS < slots {
         return 0;
     }
-    4 + 7 * slots as usize
+    layout::word_count(slots)
 }
 
-fn clear(words: &mut [u64]) {
+// What words hold before a block is made on them: the same in the recorder, and nowhere 0.
+fn spoil(words: &mut [u64]) {
     for i in 0..words.len() {
-        words[i] = 0;
+        words[i] = u64::MAX - i as u64;
     }
 }
 
-// A refused block is none, and the one before it is gone.
-fn created(words: &mut [u64], size: u64, number: u64) -> Outcome {
-    clear(words);
+// A refused block is none, and the one before it is gone; the words are as they were.
+fn created(words: &mut [u64], size: u64, number: u64, check: u64) -> Outcome {
+    spoil(words);
     let answer = creation::new(words, size);
     let given = answer.number();
+    let agrees = given == number && checksum(words) == check;
     if given != 0 {
-        return Outcome {
-            agrees: given == number,
-            lent: 0,
-        };
+        return Outcome { agrees, lent: 0 };
     }
     Outcome {
-        agrees: number == 0,
+        agrees,
         lent: words.len(),
     }
 }
@@ -108,7 +108,7 @@ fn rename_agrees(words: &mut [u64], fields: [u64; 11]) -> bool {
 
 // No call sets the next id: the recorder did, by hand.
 fn next_id_agrees(words: &mut [u64], next: u64, check: u64) -> bool {
-    if words.len() < 4 {
+    if !layout::is_table(words) {
         return false;
     }
     stores::set_next_id(words, next);
@@ -142,7 +142,7 @@ fn creation_replayed(store: &mut [u64], fields: [u64; 11], lent: usize) -> Outco
             lent,
         };
     }
-    created(&mut store[..end], fields[1], fields[3])
+    created(&mut store[..end], fields[1], fields[3], fields[4])
 }
 
 // A call of the block on the first words of the store.
@@ -158,7 +158,7 @@ fn call_replayed(store: &mut [u64], fields: [u64; 11], n: usize, lent: usize) ->
 }
 
 pub fn replayed(store: &mut [u64], fields: [u64; 11], n: usize, lent: usize) -> Outcome {
-    if fields[0] == 5 && n == 4 {
+    if fields[0] == 5 && n == 5 {
         return creation_replayed(store, fields, lent);
     }
     call_replayed(store, fields, n, lent)

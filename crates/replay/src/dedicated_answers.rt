@@ -4,7 +4,7 @@ use dedicated::questions;
 use dedicated::record::DedicatedBlock;
 use dedicated::record::New;
 use dedicated::record::Report;
-use dedicated_by_value;
+use dedicated_lent::kept;
 use recorded_blocks::Outcome;
 use recorded_blocks::placement_agrees;
 use sub_allocator::answers::Total;
@@ -68,7 +68,7 @@ fn allocate_agrees(store: &mut [u64], fields: [u64; 11]) -> bool {
         granularity: fields[4],
         label: fields[5],
     };
-    let done = dedicated_by_value::allocate(record_of(store), request);
+    let done = kept::allocate(record_of(store), request);
     keep(store, done.block);
     let answer = done.answer;
     if !placement_agrees(answer, fields[6], fields[7], fields[8]) {
@@ -78,7 +78,7 @@ fn allocate_agrees(store: &mut [u64], fields: [u64; 11]) -> bool {
 }
 
 fn free_agrees(store: &mut [u64], fields: [u64; 11]) -> bool {
-    let done = dedicated_by_value::free(record_of(store), fields[1]);
+    let done = kept::free(record_of(store), fields[1]);
     keep(store, done.block);
     let answer = done.answer;
     if answer.number() != fields[2] {
@@ -88,7 +88,7 @@ fn free_agrees(store: &mut [u64], fields: [u64; 11]) -> bool {
 }
 
 fn rename_agrees(store: &mut [u64], fields: [u64; 11]) -> bool {
-    let done = dedicated_by_value::rename_allocation(record_of(store), fields[1], fields[2]);
+    let done = kept::rename_allocation(record_of(store), fields[1], fields[2]);
     keep(store, done.block);
     let answer = done.answer;
     if answer.number() != fields[3] {

@@ -108,7 +108,7 @@ impl Lines {
         if fields[0] < 15 {
             return dedicated_answers::replayed(store, fields, at + 1, lent);
         }
-        if fields[0] == 15 {
+        if fields[0] < 17 {
             return leak_answers::replayed(store, fields, at + 1, lent);
         }
         Outcome {

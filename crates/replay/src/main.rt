@@ -7,6 +7,7 @@ mod lines;
 use crate::lines::Lines;
 use libc::STDIN_FILENO;
 use libc::STDOUT_FILENO;
+use table::layout;
 
 // The state after what one read brings.
 fn read_on(lines: Lines, store: &mut [u64]) -> Lines {
@@ -17,7 +18,7 @@ fn read_on(lines: Lines, store: &mut [u64]) -> Lines {
 
 // A proved loop has to end: 64 reads bring 4 MiB, and a line past that would be missing from the count.
 fn read_all() -> Lines {
-    let mut store: [u64; 3588] = [0; 3588];
+    let mut store: [u64; layout::MOST_WORDS] = [0; layout::MOST_WORDS];
     let mut lines = Lines::new();
     for _ in 0u64..64 {
         lines = read_on(lines, &mut store);

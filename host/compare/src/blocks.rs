@@ -10,8 +10,9 @@ use crate::calls::{answered, Answer, Call, Step, NO_ID};
 use crate::generator::{any_size, any_slots};
 use crate::leaks::{self, Stepped};
 use crate::random::Random;
+use crate::reading::read;
 use crate::rust::Request;
-use crate::table::{Table, LARGEST_BLOCK, MOST_SLOTS};
+use crate::table::{word_count, Table, LARGEST_BLOCK, MOST_SLOTS};
 use crate::tracked::Tracked;
 
 /// How many calls are recorded.
@@ -22,10 +23,10 @@ const WALKED: usize = 40;
 
 const COMMENT: &str = "\
 # Answers of gpu-allocator 0.28.0 with docs/oracle.patch, as host/compare's record_calls writes them: 5 a new block, \
-6 allocate, 7 free, 8 rename, 9 the next id set by hand, 15 what is live from a place on
-# Arguments, number, for 6 offset and id, for 6 to 8 the bytes allocated, for 6 to 9 a checksum of the words after it; \
-the Rust has no slots, and the paper gives 3 to 6, 9, 10 and 13
-# For 15 the place, id, first byte, size, kind and label of the first live chunk of the Rust's that begins there or later, \
+6 allocate, 7 free, 8 rename, 9 the next id set by hand, 15 what is live from a place on, 16 a walk that is refused at its start
+# Arguments, number, for 6 offset and id, for 6 to 8 the bytes allocated, for 5 to 9 a checksum of the words after it, which \
+before 5 are 2^64 - 1, 2^64 - 2 and so on; the Rust has no slots, and the paper gives 1 to 6, 9, 10 and 13
+# For 16 the number; for 15 the place, id, first byte, size, kind and label of the first live chunk of the Rust's that begins there or later, \
 zeros where there is none, and the place after it
 ";
 
@@ -44,6 +45,8 @@ pub enum Line {
     NextId(Table),
     /// A step of the leak walk from this place.
     Leak(u64, Stepped),
+    /// A walk is refused at its start, with this number.
+    Start(u64),
 }
 
 /// The sample: comments, then a line for each call.
@@ -118,10 +121,11 @@ fn bytes(size: u64, alignment: u64) -> Call {
 
 /// Blocks that are filled, and slots and ids that are used up.
 fn limits() -> Vec<Line> {
-    let mut lines: Vec<Line> = [0, LARGEST_BLOCK + 1]
-        .into_iter()
-        .map(|size| Line::New { size, slots: 8 })
-        .collect();
+    let mut lines = Vec::new();
+    for size in [0, LARGEST_BLOCK + 1] {
+        // there is no block then, and a walk along no words is refused
+        lines.extend([Line::New { size, slots: 8 }, start(&[])]);
+    }
     for (slots, next_id, size) in [(8, 2, 4097), (1, 2, 1), (8, NO_ID, 1)] {
         let mut block = Recorded::new(4096, slots);
         block.set_next_id(next_id);
@@ -174,7 +178,13 @@ fn any_run(slots: usize, calls: usize, random: &mut Random) -> Vec<Line> {
         block.call(call);
     }
     block.walk();
+    block.damage();
     block.lines
+}
+
+/// The start of a walk along these words, which are no sound table.
+fn start(words: &[u64]) -> Line {
+    Line::Start(leaks::start_expected(&read(words)))
 }
 
 /// A block of the Rust, and the lines that were recorded of it.
@@ -215,6 +225,16 @@ impl Recorded {
         }
     }
 
+    /// The next id set by hand to one that a chunk has, and a walk then: the last lines of the block.
+    fn damage(&mut self) {
+        let damaged = Table {
+            next_id: 1,
+            ..self.block.table()
+        };
+        let refused = start(&damaged.words());
+        self.lines.extend([Line::NextId(damaged), refused]);
+    }
+
     fn call(&mut self, call: Call) {
         let before = self.block.table();
         let answer = answered(&mut self.block, call);
@@ -232,10 +252,11 @@ impl fmt::Display for Line {
     fn fmt(&self, f: &mut fmt::Formatter<'_>) -> fmt::Result {
         match self {
             Line::New { size, slots } => {
-                let is_block = (1..=LARGEST_BLOCK).contains(size);
-                write!(f, "5 {size} {slots} {}", if is_block { 0 } else { 13 })
+                let (number, words) = created(*size, *slots);
+                write!(f, "5 {size} {slots} {number} {}", checksum(&words))
             }
-            Line::NextId(table) => write!(f, "9 {} {}", table.next_id, checksum(table)),
+            Line::NextId(table) => write!(f, "9 {} {}", table.next_id, checksum(&table.words())),
+            Line::Start(number) => write!(f, "16 {number}"),
             Line::Leak(place, stepped) => {
                 let [id, first, size, kind, label] = stepped.leak;
                 write!(
@@ -260,15 +281,29 @@ impl fmt::Display for Line {
                     Call::Free(id) => write!(f, "7 {id} {number}"),
                     Call::Rename(id, label) => write!(f, "8 {id} {label} {number}"),
                 }?;
-                write!(f, " {} {}", step.after.allocated, checksum(&step.after))
+                write!(
+                    f,
+                    " {} {}",
+                    step.after.allocated,
+                    checksum(&step.after.words())
+                )
             }
         }
     }
 }
 
+/// The number that creation answers, and the words after it, which held something else before.
+fn created(size: u64, slots: usize) -> (u64, Vec<u64>) {
+    if (1..=LARGEST_BLOCK).contains(&size) {
+        return (0, Tracked::new(size, slots).table().words());
+    }
+    let spoilt = (0..word_count(slots) as u64).map(|place| u64::MAX - place);
+    (13, spoilt.collect())
+}
+
 /// One number for all words of a table.
-fn checksum(table: &Table) -> u64 {
-    table.words().into_iter().fold(0, |sum: u64, word| {
+fn checksum(words: &[u64]) -> u64 {
+    words.iter().fold(0, |sum: u64, word| {
         (sum.rotate_left(5) ^ word).wrapping_add(0x9e37_79b9_7f4a_7c15)
     })
 }

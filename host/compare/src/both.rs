@@ -5,7 +5,7 @@ use std::mem;
 
 use lunkaseyo::ffi;
 
-use crate::calls::{answered, asked, Call, Step};
+use crate::calls::{answered, asked, Call, Step, SPOILT};
 use crate::random::Random;
 use crate::reading::{read, Reading};
 use crate::table::{head, word_count, Table};
@@ -83,15 +83,19 @@ impl Both {
         }
     }
 
-    /// Fails unless every word is as it should be written, every chunk as it should be read, and the
-    /// total that of the chunks.
+    /// Fails unless every word is as it should be written, every chunk as it should be read, the total
+    /// that of the chunks, and the block empty where the Rust says so.
     fn assert_equal(&self, after: impl Debug) {
         let table = &self.table;
         assert_eq!(self.words, table.words(), "{after:?} makes {table:?}");
         let reading = read(&self.words);
         assert!(matches!(&reading, Reading::Sound(read) if read == table));
-        let mut allocated = 0;
+        let mut allocated = SPOILT;
         let number = ffi::block_allocated(&self.words, &mut allocated);
         assert_eq!((number, allocated), (0, table.allocated), "{after:?}");
+        let mut is_empty = SPOILT;
+        let number = ffi::block_is_empty(&self.words, &mut is_empty);
+        let expected = u64::from(self.block.is_empty());
+        assert_eq!((number, is_empty), (0, expected), "{after:?}");
     }
 }

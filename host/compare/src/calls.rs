@@ -12,7 +12,7 @@ use crate::tracked::{Placed, Tracked};
 pub const NO_ID: u64 = u64::MAX;
 
 /// What out-values hold before a call.
-const SPOILT: u64 = 0xA5A5_A5A5_A5A5_A5A5;
+pub const SPOILT: u64 = 0xA5A5_A5A5_A5A5_A5A5;
 
 /// One call of a block.
 #[derive(Clone, Copy, Debug)]

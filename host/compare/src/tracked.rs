@@ -5,7 +5,7 @@ use std::collections::{HashMap, HashSet};
 use std::num::NonZeroU64;
 use std::sync::Arc;
 
-use crate::rust::{self, AllocationError, FreeListAllocator, MemoryChunk, Request};
+use crate::rust::{self, AllocationError, FreeListAllocator, MemoryChunk, Request, SubAllocator};
 use crate::table::{Chunk, Table};
 
 /// A block of the Rust. Slots follow the rules of tables: a new chunk takes the lowest empty slot,
@@ -65,6 +65,11 @@ impl Tracked {
     /// What the Rust reports: the name, the first byte and the size of each live chunk, in any order.
     pub fn reported(&self) -> Vec<(String, u64, u64)> {
         rust::reported(&self.block)
+    }
+
+    /// Whether the Rust says that nothing is allocated.
+    pub fn is_empty(&self) -> bool {
+        self.block.is_empty()
     }
 
     /// What the block's table says.

@@ -1,5 +1,7 @@
 //! The recorded sample in the repository is what the Rust answers now, and it shows each rule.
 
+use std::ops::RangeBounds;
+
 use lunkaseyo_compare::blocks::{self, Line};
 use lunkaseyo_compare::call_tally::CallTally;
 use lunkaseyo_compare::dedicated;
@@ -14,11 +16,22 @@ fn the_sample_is_what_the_rust_answers() {
     assert!(recorded.len() < 1_500_000);
 }
 
-#[test]
-fn the_sample_has_ten_thousand_answers_about_pages() {
-    let recorded = pages::recorded();
+/// How many lines of a sample begin with one of these numbers.
+fn count(recorded: &str, functions: impl RangeBounds<u64>) -> usize {
     let answers = recorded.lines().filter(|line| !line.starts_with('#'));
-    assert_eq!(answers.count(), 10_000);
+    let function = |line: &str| line.split(' ').next().and_then(|field| field.parse().ok());
+    let numbers = answers.map(|line| function(line).expect("a line begins with a number"));
+    numbers.filter(|number| functions.contains(number)).count()
+}
+
+/// The counts that README quotes, and that of the lines that the program `replay` is to agree with.
+#[test]
+fn the_sample_has_so_many_lines_of_each_kind() {
+    let recorded = pages::recorded() + &blocks::recorded() + &dedicated::recorded::recorded();
+    let counts = [1..=4, 5..=9, 15..=15, 16..=16, 10..=14].map(|kind| count(&recorded, kind));
+    assert_eq!(counts, [10_000, 5_175, 1_003, 69, 3_999]);
+    let agreed = format!("{} agree, 0 differ\n", count(&recorded, ..));
+    assert_kept("crates/replay/stdout", &agreed);
 }
 
 #[test]
@@ -48,6 +61,18 @@ fn the_sample_has_walks_to_the_end_and_past_padding() {
     }
     println!("{steps} steps, {ends} of them at an end");
     assert!(steps > 1_000 && ends > 100 && steps > 2 * ends);
+}
+
+#[test]
+fn the_sample_has_walks_that_are_refused_at_their_start() {
+    let mut numbers = [0; 3];
+    for line in blocks::lines() {
+        if let Line::Start(number) = line {
+            numbers[number as usize] += 1;
+        }
+    }
+    println!("{numbers:?} starts that are refused with 0, 1 and 2");
+    assert!(numbers[0] == 0 && numbers[1] > 0 && numbers[2] > 50);
 }
 
 #[test]

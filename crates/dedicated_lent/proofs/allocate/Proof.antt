@@ -38,7 +38,8 @@ use Rattle.sub_allocator.proofs.request.Request.Laws as Q′
 use Rattle.dedicated.specs.Dedicated.{placed, allocateIn}
 use Rattle.dedicated.specs.declared.record.DedicatedBlock.{DedicatedBlock}
 use Rattle.dedicated.specs.declared.record.Placing.{Placing}
-use Rattle.dedicated_lent.proofs.HandedOn.{placing, machine, told, asks, Left, leaves, hands-on}
+use Rattle.dedicated_lent.proofs.Results.{placing, machine, told}
+use Rattle.dedicated_lent.proofs.HandedOn.{asks, Left, leaves, hands-on}
 use Rattle.dedicated.proofs.record.DedicatedBlock as T
 use Rattle.dedicated_by_value.proofs.allocate as by-value
 use Rattle.dedicated_by_value.proofs.allocate.Symbol as by-value-def

@@ -35,7 +35,8 @@ use denote.Exit.{yes}
 use Rattle.dedicated.specs.Dedicated.{changed, renameIn}
 use Rattle.dedicated.specs.declared.record.DedicatedBlock.{DedicatedBlock}
 use Rattle.dedicated.specs.declared.record.Changing.{Changing}
-use Rattle.dedicated_lent.proofs.HandedOn.{changing, machine, told, asks, Left, leaves, hands-on}
+use Rattle.dedicated_lent.proofs.Results.{changing, machine, told}
+use Rattle.dedicated_lent.proofs.HandedOn.{asks, Left, leaves, hands-on}
 use Rattle.dedicated.proofs.record.DedicatedBlock as T
 use Rattle.dedicated_by_value.proofs.rename_allocation as by-value
 use Rattle.dedicated_by_value.proofs.rename_allocation.Symbol as by-value-def

@@ -44,6 +44,7 @@ use Rattle.opening.proofs.look.table_fault as fault
 use Rattle.opening.proofs.look.table_fault.Symbol as fault-def
 use Rattle.opening.proofs.look.table_fault.Symbol.{name as #opening·look·table-fault}
 use Rattle.opening.proofs.look.table_fault.Met as fault-thm
+use Rattle.leak_walk.specs.Walks.{startOf}
 use Rattle.leak_walk.specs.declared.Walk.{Walk}
 use Rattle.leak_walk.proofs.Walk as T
 use Rattle.leak_walk.proofs.Walk.Laws as T′
@@ -71,9 +72,9 @@ module _ {M : Type 1} (𝓤 : URA M) (H : Heap 𝓤) (A : Atoms 𝓤) (W : Given
   abbrev vals : List Val × Unit {0}
   vals = (slice ∷ [], tt)
 
-  -- the struct with the fault n
-  abbrev begun : ℕ → Walk
-  begun n = record { words = s; place = 0; fault = n }
+  -- the struct with the place p and the fault n
+  abbrev begun : ℕ → ℕ → Walk
+  begun p n = record { words = s; place = p; fault = n }
 
   abbrev Done : Val → SProp 𝓤
   Done = walkOf 𝓤 H A start.ended left (start.clauses 𝓤 H A mem run) .post (((κ, tt), (q, tt), tt, (s, tt), vals), tt)
@@ -95,14 +96,14 @@ module _ {M : Type 1} (𝓤 : URA M) (H : Heap 𝓤) (A : Atoms 𝓤) (W : Given
   answered : (n : ℕ) → ent 𝓤 (ensured 𝓤 H A fault.ended (fault.clauses 𝓤 H A mem run) (κ, tt) (s, tt) tt n) (fact 𝓤 (n ≡ tableFault (now s)))
   answered n = exE 𝓤 _ (λ ws. snd∗ 𝓤 (sem 𝓤 H A (lasts fault.ended (κ, tt) (s, tt) ws)) (fact 𝓤 (n ≡ tableFault (now s))))
 
-  leaves : (n : ℕ) → n < 2 ^ 64 → n ≡ tableFault (now s) → ent 𝓤 (⋆ 𝓤 H A ((‵ (flft κ q) ⊛ ‵ ftrue) ∷ ‵ WordsOwn ∷ [])) (Done (T′.lowered (begun n)))
-  leaves n fits e =
+  leaves : (p n : ℕ) → p < 2 ^ 64 → n < 2 ^ 64 → begun p n ≡ startOf s → ent 𝓤 (⋆ 𝓤 H A ((‵ (flft κ q) ⊛ ‵ ftrue) ∷ ‵ WordsOwn ∷ [])) (Done (T′.lowered (begun p n)))
+  leaves p n p-fits fits e =
       qed W ((‵ (flft κ q) ⊛ ‵ ftrue) ∷ ‵ WordsOwn ∷ []) ∵
-      suffices ! _ (ends-at 𝓤 H A start.ended left (start.clauses 𝓤 H A mem run) W (((κ, tt), (q, tt), tt, (s, tt), vals), tt) (T′.lowered (begun n)) (begun n) (tt, tt) (tt, tt)) $ says ! (ap begun e) $
+      suffices ! _ (ends-at 𝓤 H A start.ended left (start.clauses 𝓤 H A mem run) W (((κ, tt), (q, tt), tt, (s, tt), vals), tt) (T′.lowered (begun p n)) (begun p n) (tt, tt) (tt, tt)) $ says ! e $
       frame ! $ use1 W (‵ WordsOwn ⊛ ‵ WordsOwn) (shr-slice-copy 𝓤 H A W (named 0) κ u64 .twice s (slice ∷ [])) $ split ! $ nothing ! $ move ! (1 ∷ 0 ∷ []) $ fjoin ! $ frame ! $
       -- [the words]: the two numbers own nothing but facts, which are made here
-      nothing ! $ owned ! u64 (Is u64) (uint-makes 𝓤 H A W w64) n _ (refl, fits) $ fjoin ! $ owned ! u64 (Is u64) (uint-makes 𝓤 H A W w64) 0 _ (refl, lit< tt) $ fjoin ! $ move ! (1 ∷ 0 ∷ []) $ fjoin ! $
-      by ! (own-shut 𝓤 H A W (T.the-type α) (T′.the-laws α) (s, (0, (n, tt))))
+      nothing ! $ owned ! u64 (Is u64) (uint-makes 𝓤 H A W w64) n _ (refl, fits) $ fjoin ! $ owned ! u64 (Is u64) (uint-makes 𝓤 H A W w64) p _ (refl, p-fits) $ fjoin ! $ move ! (1 ∷ 0 ∷ []) $ fjoin ! $
+      by ! (own-shut 𝓤 H A W (T.the-type α) (T′.the-laws α) (s, (p, (n, tt))))
 
   module _ (C : Calls 𝓤 H) (Λ : Loops 𝓤 H) (fm : FmC 𝓤 H (W .laws) C) (known : Triple 𝓤 (C #opening·look·table-fault) (Fault 𝓤 H A mem run)) where
     body : Is (ShrSlice (named 0) κ u64) s (slice ∷ []) → ent 𝓤 (onEntry 𝓤 H A start.signature (κ, tt) (q, tt) (s, tt) vals) (WpFn 𝓤 H C Λ code.function (slice ∷ []) Done)
@@ -118,7 +119,7 @@ module _ {M : Type 1} (𝓤 : URA M) (H : Heap 𝓤) (A : Atoms 𝓤) (W : Given
         land ! (from ! (stop !)) (init ! 2 refl (uint-lawful 𝓤 H A W w64 .typed n _ is .0)) $ rewrite ! 2 (λ (u′ : Val). ‵ (fat fullShare (tyInt w64) l₂ 0 u′)) (ap only (is .0)) refl $
         assigns ! (agg ! (and-then ! (load ! (from ! (stop !)) (look ! 4 refl)) (and-then ! (lit ! tt) (and-then ! (load ! (from ! (stop !)) (look ! 2 refl)) (no-more !))))) (from ! (stop !))
         (init ! 6 refl (tt, (shr-slice-lawful 𝓤 H A W (named 0) κ u64 .typed s (slice ∷ []) is-slice .0 .1, (record { fits = lit< tt }, (record { fits = is .1 }, tt))))) $
-        returns ! (look ! 6 refl) $ forget ! 2 refl $ forget ! 4 refl $ forget ! 6 refl $ move ! (6 ∷ 7 ∷ []) $ free1 ! $ move ! (4 ∷ 5 ∷ []) $ free1 ! $ move ! (2 ∷ 3 ∷ []) $ free1 ! $ free0 ! $ by ! (leaves n (is .1) e))))))))
+        returns ! (look ! 6 refl) $ forget ! 2 refl $ forget ! 4 refl $ forget ! 6 refl $ move ! (6 ∷ 7 ∷ []) $ free1 ! $ move ! (4 ∷ 5 ∷ []) $ free1 ! $ move ! (2 ∷ 3 ∷ []) $ free1 ! $ free0 ! $ by ! (leaves _ n (lit< tt) (is .1) (ap (begun 0) e)))))))))
 
 module _ {M : Type 1} (𝓤 : URA M) (H : Heap 𝓤) (A : Atoms 𝓤) (W : Given 𝓤 H A) (mem : Memory → SProp 𝓤) (run : Routine → Fun 𝓤) where
   start-walks : (C : Calls 𝓤 H) (Λ : Loops 𝓤 H) → FmC 𝓤 H (W .laws) C → Triple 𝓤 (C #opening·look·table-fault) (Fault 𝓤 H A mem run) → Walks 𝓤 H A start.ended left (WpFn 𝓤 H C Λ code.function) (start.clauses 𝓤 H A mem run)

@@ -26,6 +26,9 @@ array-read-created c = search needs
 array-read-created-2 : tie.Need-array-read-created-2
 array-read-created-2 c = search needs
 
+array-read-created-3 : tie.Need-array-read-created-3
+array-read-created-3 c = search needs
+
 created-requires : tie.Need-created-requires
 created-requires c κs = search needs
 
@@ -46,6 +49,7 @@ creation-replayed-spec =
     slice-aggregate-created
     array-read-created
     array-read-created-2
+    array-read-created-3
     created-requires
     same-length
     returns-2)

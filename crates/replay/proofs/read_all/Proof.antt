@@ -3,11 +3,12 @@ use Prim.Native.Nat.{_≤_, _-_}
 use mathlib.Core.Path.{_≡_}
 use lib.ListN.{length}
 use borrow.Author.Needs.{needs}
+use Rattle.table.specs.Layout.{mostWords}
 use Rattle.replay.proofs.read_all.Statement.{statement}
 use Rattle.replay.proofs.read_all.Tie as tie
 
 abbrev Inv-loop : tie.InvT-loop
-Inv-loop store₀ lines₀ counter₀ store lines counter = (counter ≤ 64) × (length store ≡ 3588)
+Inv-loop store₀ lines₀ counter₀ store lines counter = (counter ≤ 64) × (length store ≡ mostWords)
 
 abbrev μ-loop : tie.MeasureT-loop
 μ-loop store₀ lines₀ counter₀ store lines counter = 64 - counter

@@ -1,10 +1,10 @@
--- `recorded_blocks::clear` meets its contract: it writes no word past the last, and ends. Assumes nothing.
+-- `recorded_blocks::spoil` meets its contract: it writes no word past the last, and ends. Assumes nothing.
 use Prim.Native.Nat.{_≤_, _-_}
 use mathlib.Core.Path.{_≡_}
 use lib.ListN.{length}
 use borrow.Author.Needs.{needs}
-use Rattle.recorded_blocks.proofs.clear.Statement.{statement}
-use Rattle.recorded_blocks.proofs.clear.Tie as tie
+use Rattle.recorded_blocks.proofs.spoil.Statement.{statement}
+use Rattle.recorded_blocks.proofs.spoil.Tie as tie
 
 abbrev Inv-loop : tie.InvT-loop
 Inv-loop words₀ i₀ i-end words i = (i ≤ i-end) × (length words ≡ i-end) × (length words ≡ length words₀)
@@ -14,6 +14,9 @@ abbrev μ-loop : tie.MeasureT-loop
 
 loop-holds : tie.Need-loop-holds Inv-loop μ-loop
 loop-holds c = search needs
+
+sub-words : tie.Need-sub-words Inv-loop μ-loop
+sub-words c = search needs
 
 mul-words : tie.Need-mul-words Inv-loop μ-loop
 mul-words c = search needs
@@ -36,13 +39,14 @@ same-length c = search needs
 returns : tie.Need-returns Inv-loop μ-loop
 returns c = search needs
 
-pub clear-spec : {M : Type 1} → statement M
-clear-spec =
+pub spoil-spec : {M : Type 1} → statement M
+spoil-spec =
     tie.close
     (tie.spec
     Inv-loop
     μ-loop
     loop-holds
+    sub-words
     mul-words
     slice-write-words
     add-i

@@ -1,0 +1,2 @@
+-- The walk that the proofs of `leak_walk` share.
+pub mod Stepping
