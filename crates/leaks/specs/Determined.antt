@@ -1,19 +1,30 @@
 -- That what the statements of the walk allow is one answer and one place. Assumes nothing.
 use Prim.Native.Nat.{ℕ}
 use mathlib.Core.List.{List}
-use mathlib.Core.Path.{_≡_, refl, sym, _∙_}
+use mathlib.Core.Option.{Option, none, some}
+use mathlib.Core.Path.{_≡_, refl, sym, ap, _∙_}
+use Rattle.laws.specs.Reply.{Reply, accepted, refused}
 use Rattle.sub_allocator.specs.Answers.{one-outcome}
 use Rattle.leaks.specs.Leaks.{Live, replyLeak, leakOn, stepOn, stepped}
 use Rattle.leaks.specs.declared.leak.Leak.{Leak}
 use Rattle.leaks.specs.declared.leak.Leak.the-variants as leak
 use Rattle.leaks.specs.declared.steps.Stepped.{Stepped}
 
+-- a number of what is handed out, 0 where nothing is
+abbrev fieldOf : (Live → ℕ) → Reply (Option Live) → ℕ
+fieldOf field (accepted (some l)) = field l
+fieldOf field (accepted none) = 0
+fieldOf field (refused n) = 0
+
 -- Two answers that stand for the same reply are equal.
 pub one-leak : (a b : Leak) → replyLeak a ≡ replyLeak b → a ≡ b
 one-leak (leak.Live i f s k n) (leak.Live i′ f′ s′ k′ n′) e =
-    let g : _≡_ {A = Live} (record { id = i; first = f; size = s; kind = k; label = n })
-    (record { id = i′; first = f′; size = s′; kind = k′; label = n′ }) = cc in
-    λ j. leak.Live (g j .id) (g j .first) (g j .size) (g j .kind) (g j .label)
+    let a = ap (fieldOf (λ l. l .id)) e in
+    let b = ap (fieldOf (λ l. l .first)) e in
+    let c = ap (fieldOf (λ l. l .size)) e in
+    let d = ap (fieldOf (λ l. l .kind)) e in
+    let g = ap (fieldOf (λ l. l .label)) e in
+    cc
 one-leak (leak.Live i f s k n) leak.End e = cc
 one-leak (leak.Live i f s k n) (leak.Refused m) e = cc
 one-leak leak.End (leak.Live i f s k n) e = cc

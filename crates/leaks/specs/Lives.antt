@@ -105,9 +105,7 @@ sum-lives left (c ∷ cs) =
 
 -- A chunk as it is handed out has the words of its slot.
 pub spot-words : (ws : List ℕ) (k : ℕ) (z : Spot) → InSlot ws k z → liveAt ws k ≡ liveOf z
-spot-words ws k z h =
-    let w = in-words h in
-    λ i. record { id = w .id i; first = w .begins i; size = w .size i; kind = w .kind i; label = w .label i }
+spot-words ws k z h = let w = in-words h in rw (w .id, w .begins, w .size, w .kind, w .label)
 
 module _ (ws : List ℕ) (t : TableWords ws) (s : Sound ws) where
   is-sound : sound ws ≡ true
