@@ -200,7 +200,7 @@ module _ (ws : List ℕ) (r : Request) where
   -- a table that is not looked into
   pub no-block : tableFault ws ≢ 0 → (refused (tableFault ws), ws) ≡ allocateOn ws r
   unfolding allocateOn
-  no-block n = rw (unfit ws (place r) n)
+  no-block n = sym (ap (λ (a : Reply Placed). leaves given (λ (p : Placed). p .block) ws a) (unfit ws _ n))
 
   module _ (t : isTable ws ≡ true) (s : sound ws ≡ true) where
     on-request : allocateOn ws r ≡ leaves given (λ (p : Placed). p .block) ws (place r (blockOf ws))
