@@ -13,7 +13,7 @@ use lib.Dec.{leb}
 use Rattle.laws.specs.Lists.{All, Pairwise, all-at, pair-at}
 use Rattle.laws.specs.Reply.{accepted, not-refused}
 use Rattle.laws.specs.Tests.{cond-cases}
-use Rattle.model.specs.Block.{Spot, isFree, first, spots}
+use Rattle.model.specs.Block.{Spot, isFree, first, spots, largestBlock}
 use Rattle.model.specs.GivingBack.{find}
 use Rattle.table.specs.Layout.{sizeAt, firstByteAt}
 use Rattle.words.specs.Words.{blockOf}
@@ -188,7 +188,7 @@ leak-id ws address l e =
 
 -- What is handed out ends within 2^40 bytes.
 pub leak-within : (ws : List ℕ) (address : ℕ) (l : Live) → leakOn ws address ≡ accepted (some l)
-    → l .first + l .size ≤ 2 ^ 40
+    → l .first + l .size ≤ largestBlock
 leak-within ws address l e =
     let h = leak-live ws address l .0 e in
     let k = h .2 .0 in

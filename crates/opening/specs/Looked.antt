@@ -1,5 +1,5 @@
 -- What a call on a table looks at first, in the paper's words: the word count, then the rules. Assumes nothing.
-use Prim.Native.Nat.{ℕ, _+_, _*_, _≤_}
+use Prim.Native.Nat.{ℕ, _≤_}
 use native.Mathlib.Omega.{arith}
 use mathlib.Core.Bool.{true}
 use mathlib.Core.List.{List}
@@ -9,7 +9,7 @@ use lib.ListN.{length}
 use Rattle.laws.specs.Every.{cases, clash}
 use Rattle.laws.specs.Reply.{Reply, refused, number}
 use Rattle.model.specs.Block.{Block}
-use Rattle.table.specs.Layout.{slotCount, isTable, table-shape}
+use Rattle.table.specs.Layout.{wordCount, slotCount, mostSlots, isTable, table-shape}
 use Rattle.words.specs.Words.{blockOf, sound, decode}
 use Rattle.words.specs.Soundness.{Sound}
 use Rattle.words.specs.Written.{decode-none, decode-unsound, decode-block, not-a-table}
@@ -18,7 +18,7 @@ use Rattle.opening.specs.Look.{onTable}
 
 -- the word count is 4 + 7s, s from 1 to 512
 abbrev pub TableWords : List ℕ → Type 0
-TableWords ws = (s : ℕ) × (1 ≤ s) × (s ≤ 512) × (length ws ≡ 4 + 7 * s)
+TableWords ws = (s : ℕ) × (1 ≤ s) × (s ≤ mostSlots) × (length ws ≡ wordCount s)
 
 -- The test of the word count passes exactly where it is such a number.
 pub table-exactly : (ws : List ℕ) → isTable ws ≡ true ↔ TableWords ws

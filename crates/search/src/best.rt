@@ -34,7 +34,7 @@ pub fn best(w: &[u64], request: Request) -> u64
     ensures { λ r. ⌜ r ≡ bestSlot (now (w .entry)) (requestOf request) ⌝ }
 {
     let mut best: u64 = 0;
-    let mut spare: u64 = 18446744073709551615 - request.size;
+    let mut spare: u64 = u64::MAX - request.size;
     let mut next = layout::first_slot(w);
     // by rising address, so that of equal chunks the first stays
     while next != 0 {
