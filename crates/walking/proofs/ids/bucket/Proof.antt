@@ -16,13 +16,10 @@ with-shifted-requires-3 c κs = search needs
 with-shifted-requires-4 : tie.Need-with-shifted-requires-4
 with-shifted-requires-4 c κs = search needs
 
-with-shifted-requires-5 : tie.Need-with-shifted-requires-5
-with-shifted-requires-5 c κs = search needs
-
 returns : tie.Need-returns
 returns c =
-    spread-is _ _ _ _ _ _ (c .before .before .before .before .with-shifted .ensures) (c .before .before .before .with-shifted2 .ensures)
-    (c .before .before .with-shifted3 .ensures) (c .before .with-shifted4 .ensures) (c .with-shifted5 .ensures)
+    spread-is (c .before .before .before .before .args .id) _ _ _ _ (c .before .before .before .with-shifted .ensures) (c .before .before .with-shifted2 .ensures)
+    (c .before .with-shifted3 .ensures) (c .with-shifted4 .ensures)
 
 pub bucket-spec : {M : Type 1} → statement M
 bucket-spec =
@@ -32,5 +29,4 @@ bucket-spec =
     with-shifted-requires-2
     with-shifted-requires-3
     with-shifted-requires-4
-    with-shifted-requires-5
     returns)
