@@ -1,5 +1,5 @@
 -- The product that gives an id its bucket, factor by factor. Assumes nothing.
-use Prim.Native.Nat.{ℕ, _+_, _*_, _/_, _%_, _^_, _<_}
+use Prim.Native.Nat.{ℕ, _+_, _-_, _*_, _/_, _%_, _^_, _<_}
 use native.Mathlib.Nat.{add-comm, add-mul, mul-assoc, mul-comm, div-add-mod', add-mul-mod-self-right}
 use mathlib.Core.Path.{_≡_, sym, ap, _∙_}
 use lib.Bits.{bitXor}
@@ -18,11 +18,11 @@ more : (x y a f : ℕ) → x ≡ a % 2 ^ 64 → y ≡ x * f % 2 ^ 64 → y ≡ a
 more x y a f p q = q ∙ ap (λ (n : ℕ). n * f % 2 ^ 64) p ∙ factor a f (2 ^ 64)
 
 -- What is left after four factors has the bucket in its top nine bits.
-pub spread-is : (id a b c d : ℕ) → a ≡ bitXor id 1448498774 * (2 ^ 8 + 1) % 2 ^ 64 → b ≡ a * (2 ^ 9 + 1) % 2 ^ 64 → c ≡ b * (2 ^ 14 + 1) % 2 ^ 64 →
+pub spread-is : (id z a b c d : ℕ) → z ≡ (id + (2 ^ 64 - 1)) % 2 ^ 64 → a ≡ bitXor z 1448498774 * (2 ^ 8 + 1) % 2 ^ 64 → b ≡ a * (2 ^ 9 + 1) % 2 ^ 64 → c ≡ b * (2 ^ 14 + 1) % 2 ^ 64 →
     d ≡ c * (2 ^ 26 + 1) % 2 ^ 64 → d / 2 ^ 55 ≡ bucketOf id
 unfolding bucketOf
-spread-is id a b c d p q r s =
-    ap (λ (n : ℕ). n / 2 ^ 55) (more c d _ (2 ^ 26 + 1) (more b c _ (2 ^ 14 + 1) (more a b _ (2 ^ 9 + 1) p q) r) s)
+spread-is id z a b c d o p q r s =
+    ap (λ (n : ℕ). n / 2 ^ 55) (more c d _ (2 ^ 26 + 1) (more b c _ (2 ^ 14 + 1) (more a b _ (2 ^ 9 + 1) (p ∙ ap (λ (n : ℕ). bitXor n 1448498774 * (2 ^ 8 + 1) % 2 ^ 64) o) q) r) s)
 
 pub in-range : (h id : ℕ) → h ≡ bucketOf id → h < 512
 in-range h id e = rw e (bucket-below id)

@@ -14,11 +14,13 @@ fn with_shifted(x: u64, by: u64) -> u64
     std::num::wrapping_add_u64(x << by, x)
 }
 
-// Ids in a stride leave few remainders, and are spread by this. The compiler makes one multiplication of the four.
+// Ids in a stride leave few remainders, and are spread by this. The compiler makes one multiplication of the four, and has
+// id - 1 from the test of its range.
 fn bucket(id: u64) -> usize
     ensures { λ r. ⌜ r ≡ bucketOf id ⌝ }
 {
-    let few = with_shifted(with_shifted(id ^ 0x56565656, 8), 9);
+    let before = std::num::wrapping_add_u64(id, u64::MAX);
+    let few = with_shifted(with_shifted(before ^ 0x56565656, 8), 9);
     let spread = with_shifted(with_shifted(few, 14), 26);
     (spread >> 55) as usize
 }

@@ -1,5 +1,5 @@
 -- Ids by buckets: a list of 512 heads, then a link for each slot. Assumes nothing.
-use Prim.Native.Nat.{ℕ, zero, suc, _+_, _*_, _/_, _%_, _^_, _≤_, _<_}
+use Prim.Native.Nat.{ℕ, zero, suc, _+_, _-_, _*_, _/_, _%_, _^_, _≤_, _<_}
 use native.Mathlib.Omega.{arith}
 use mathlib.Core.Bool.{Bool, not}
 use mathlib.Core.List.{List, [], _∷_, map}
@@ -17,9 +17,10 @@ AllAtMost slots t = (i : ℕ) → getD t i 0 ≤ slots
 abbrev pub AllZero : List ℕ → Type 0
 AllZero t = (i : ℕ) → getD t i 0 ≡ 0
 
--- the bucket of an id: some bits flipped, then the top nine of the 64 low bits of a product, so that ids in a stride are spread
+-- the bucket of an id: of the number before it, some bits flipped, then the top nine of the 64 low bits of a product, so that
+-- ids in a stride are spread
 unfoldable pub bucketOf : ℕ → ℕ
-bucketOf id = bitXor id 1448498774 * (2 ^ 8 + 1) * (2 ^ 9 + 1) * (2 ^ 14 + 1) * (2 ^ 26 + 1) % 2 ^ 64 / 2 ^ 55
+bucketOf id = bitXor ((id + (2 ^ 64 - 1)) % 2 ^ 64) 1448498774 * (2 ^ 8 + 1) * (2 ^ 9 + 1) * (2 ^ 14 + 1) * (2 ^ 26 + 1) % 2 ^ 64 / 2 ^ 55
 
 -- It is one of 512.
 pub bucket-below : (id : ℕ) → bucketOf id < 512
