@@ -1,7 +1,8 @@
 -- The product that gives an id its bucket, factor by factor. Assumes nothing.
-use Prim.Native.Nat.{ℕ, _+_, _*_, _/_, _%_, _^_, _<_}
+use Prim.Native.Nat.{ℕ, _+_, _-_, _*_, _/_, _%_, _^_, _<_}
 use native.Mathlib.Nat.{add-comm, add-mul, mul-assoc, mul-comm, div-add-mod', add-mul-mod-self-right}
 use mathlib.Core.Path.{_≡_, sym, ap, _∙_}
+use lib.Bits.{bitXor}
 use Rattle.words.specs.Ids.{bucketOf, bucket-below}
 
 -- A factor more, of what stayed below m.
@@ -16,12 +17,12 @@ factor a f m =
 more : (x y a f : ℕ) → x ≡ a % 2 ^ 64 → y ≡ x * f % 2 ^ 64 → y ≡ a * f % 2 ^ 64
 more x y a f p q = q ∙ ap (λ (n : ℕ). n * f % 2 ^ 64) p ∙ factor a f (2 ^ 64)
 
--- What is left after five factors has the bucket in its top nine bits.
-pub spread-is : (id a b c d e : ℕ) → a ≡ id * (2 ^ 4 + 1) % 2 ^ 64 → b ≡ a * (2 ^ 11 + 1) % 2 ^ 64 → c ≡ b * (2 ^ 18 + 1) % 2 ^ 64 →
-    d ≡ c * (2 ^ 36 + 1) % 2 ^ 64 → e ≡ d * (2 ^ 41 + 1) % 2 ^ 64 → e / 2 ^ 55 ≡ bucketOf id
+-- What is left after four factors has the bucket in its top nine bits.
+pub spread-is : (id z a b c d : ℕ) → z ≡ (id + (2 ^ 64 - 1)) % 2 ^ 64 → a ≡ bitXor z 1448498774 * (2 ^ 8 + 1) % 2 ^ 64 → b ≡ a * (2 ^ 9 + 1) % 2 ^ 64 → c ≡ b * (2 ^ 14 + 1) % 2 ^ 64 →
+    d ≡ c * (2 ^ 26 + 1) % 2 ^ 64 → d / 2 ^ 55 ≡ bucketOf id
 unfolding bucketOf
-spread-is id a b c d e p q r s t =
-    ap (λ (n : ℕ). n / 2 ^ 55) (more d e _ (2 ^ 41 + 1) (more c d _ (2 ^ 36 + 1) (more b c _ (2 ^ 18 + 1) (more a b _ (2 ^ 11 + 1) p q) r) s) t)
+spread-is id z a b c d o p q r s =
+    ap (λ (n : ℕ). n / 2 ^ 55) (more c d _ (2 ^ 26 + 1) (more b c _ (2 ^ 14 + 1) (more a b _ (2 ^ 9 + 1) (p ∙ ap (λ (n : ℕ). bitXor n 1448498774 * (2 ^ 8 + 1) % 2 ^ 64) o) q) r) s)
 
 pub in-range : (h id : ℕ) → h ≡ bucketOf id → h < 512
 in-range h id e = rw e (bucket-below id)

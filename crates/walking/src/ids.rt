@@ -14,12 +14,14 @@ fn with_shifted(x: u64, by: u64) -> u64
     std::num::wrapping_add_u64(x << by, x)
 }
 
-// A remainder would put ids that come in a stride of 512 into one bucket. The compiler makes one multiplication of the five.
+// Ids in a stride leave few remainders, and are spread by this. The compiler makes one multiplication of the four, and has
+// id - 1 from the test of its range.
 fn bucket(id: u64) -> usize
     ensures { λ r. ⌜ r ≡ bucketOf id ⌝ }
 {
-    let few = with_shifted(with_shifted(id, 4), 11);
-    let spread = with_shifted(with_shifted(with_shifted(few, 18), 36), 41);
+    let before = std::num::wrapping_add_u64(id, u64::MAX);
+    let few = with_shifted(with_shifted(before ^ 0x56565656, 8), 9);
+    let spread = with_shifted(with_shifted(few, 14), 26);
     (spread >> 55) as usize
 }
 

@@ -1,9 +1,10 @@
 -- Ids by buckets: a list of 512 heads, then a link for each slot. Assumes nothing.
-use Prim.Native.Nat.{ℕ, zero, suc, _+_, _*_, _/_, _%_, _^_, _≤_, _<_}
+use Prim.Native.Nat.{ℕ, zero, suc, _+_, _-_, _*_, _/_, _%_, _^_, _≤_, _<_}
 use native.Mathlib.Omega.{arith}
 use mathlib.Core.Bool.{Bool, not}
 use mathlib.Core.List.{List, [], _∷_, map}
 use mathlib.Core.Path.{_≡_}
+use lib.Bits.{bitXor}
 use lib.ListN.{getD, set}
 use Rattle.laws.specs.Members.{has}
 use Rattle.table.specs.Layout.{idAt}
@@ -16,9 +17,10 @@ AllAtMost slots t = (i : ℕ) → getD t i 0 ≤ slots
 abbrev pub AllZero : List ℕ → Type 0
 AllZero t = (i : ℕ) → getD t i 0 ≡ 0
 
--- the bucket of an id: the top nine bits of 64 of a product, by a factor that spreads ids in a stride
+-- the bucket of an id: of the number before it, some bits flipped, then the top nine of the 64 low bits of a product, so that
+-- ids in a stride are spread
 unfoldable pub bucketOf : ℕ → ℕ
-bucketOf id = id * (2 ^ 4 + 1) * (2 ^ 11 + 1) * (2 ^ 18 + 1) * (2 ^ 36 + 1) * (2 ^ 41 + 1) % 2 ^ 64 / 2 ^ 55
+bucketOf id = bitXor ((id + (2 ^ 64 - 1)) % 2 ^ 64) 1448498774 * (2 ^ 8 + 1) * (2 ^ 9 + 1) * (2 ^ 14 + 1) * (2 ^ 26 + 1) % 2 ^ 64 / 2 ^ 55
 
 -- It is one of 512.
 pub bucket-below : (id : ℕ) → bucketOf id < 512
