@@ -2,7 +2,7 @@
 -- put. Assumes nothing.
 use Rattle.std.specs.Prelude.{ℕ, ◌+◌, ◌-◌, ◌%◌, ◌≤◌, ◌<◌, List, [], ◌∷◌, ◌↔◌, ◌≢◌, ◌⊎◌, ◌≡◌, refl}
 use Rattle.std.proofs.Common.{arith, inl, inr, ⊎_elim, sym, subst, ◌∙◌}
-use Rattle.std.proofs.Math.Logic.{Iff·trans}
+use Rattle.std.proofs.Math.Logic.Iff
 use Rattle.std.proofs.Math.Option.{Option, none, some}
 use Rattle.std.proofs.Math.Path.{ap}
 use Rattle.laws.specs.Reply.{Reply, accepted, refused}
@@ -191,8 +191,8 @@ module _ (r : Request) (h : WellFormed r) (ws : List ℕ) (t : TableWords ws) (s
   pub room-refused : (allocate_on ws r).0 ≡ refused 7 ↔ ((k o : ℕ) → RoomAt r ws k o → ⊥)
   unfolding allocate_on
   room-refused =
-      Iff·trans (rw (sound-answered (place r) ws t s) (told-refused given (λ p. p.block) ws (place r (block_of ws)) 7))
-      (Iff·trans (no_room r h (block_of ws) (table-known ws t s).block) (no-room-words ws t s r))
+      Iff.trans (rw (sound-answered (place r) ws t s) (told-refused given (λ p. p.block) ws (place r (block_of ws)) 7))
+      (Iff.trans (no_room r h (block_of ws) (table-known ws t s).block) (no-room-words ws t s r))
 
   -- There is no room, or there is a best place.
   pub some-best : ((k o : ℕ) → RoomAt r ws k o → ⊥) ⊎ ((k o : ℕ) × BestAt r ws k o)

@@ -3,7 +3,8 @@ use Rattle.std.specs.Prelude.{ℕ, ◌+◌, ◌-◌, ◌≤◌, ◌<◌, true, �
 use Rattle.std.proofs.Common.{add_comm, arith, inl, inr, ⊎_elim, sym, ap, ◌∙◌}
 use mathlib.Core.List.Memᴰ
 use mathlib.Core.List.{List, [], ◌∷◌, reverse_aux, Memᴰ}
-use Rattle.std.proofs.Math.Logic.{⊎_map, Iff·rfl}
+use Rattle.std.proofs.Math.Logic.{⊎_map}
+use Rattle.std.proofs.Math.Logic.Iff
 use Rattle.laws.specs.Cuts.{Converse, cut_all, cut-pairs, cut-links, in_part, from-left, from-right}
 use Rattle.laws.specs.Lists.{All, Pairwise, Head, Linked, all_map, all_zip, all_at, all_of, head_map}
 use Rattle.laws.specs.Pages.{page_finer}
@@ -259,6 +260,6 @@ hold_fresh G size slots a b c d = record {
   ranges = [];
   track = skip refl end;
   ordered = tt;
-  known = λ x. Iff·rfl;
+  known = λ x. Iff.rfl;
   distinct = tt;
 }

@@ -2,7 +2,8 @@
 use Prim.Native.Nat.{ℕ, zero, suc, ◌+◌, ◌≤◌, ◌<◌}
 use Rattle.std.proofs.Common.{arith, sym, ◌∙◌, eq-eqb, ne_eqb, lt-ltb, le-ltb}
 use Rattle.std.specs.Prelude.{◌↔◌, ◌≢◌, ◌⊎◌, ◌≡◌}
-use Rattle.std.proofs.Math.Logic.{inl, inr, ⊎_elim, Iff·trans}
+use Rattle.std.proofs.Math.Logic.{inl, inr, ⊎_elim}
+use Rattle.std.proofs.Math.Logic.Iff
 use Rattle.std.proofs.Math.Option.{Option, none, some}
 use Rattle.std.proofs.Math.Path.{refl, ap}
 use Rattle.laws.specs.Lists.{all_at}
@@ -55,26 +56,26 @@ module _ (r : Request) (b : Block) where
 
   -- 3 exactly when the size is 0.
   pub refused-3 : place r b ≡ refused 3 ↔ r.size ≡ 0
-  refused-3 = Iff·trans (early 3 (omega arith) (omega arith)) (fault-size r)
+  refused-3 = Iff.trans (early 3 (omega arith) (omega arith)) (fault-size r)
 
   module _ (w : Words r) where
     -- 4 exactly when it is not, and the alignment has not exactly one bit set.
     pub refused-4 : place r b ≡ refused 4 ↔ ((1 ≤ r.size) × (Pow64 r.alignment → ⊥))
     refused-4 =
-        Iff·trans (early 4 (omega arith) (omega arith))
+        Iff.trans (early 4 (omega arith) (omega arith))
         (fault-alignment Pow64 r (power_of_two _ w.alignment) (power_of_two _ w.granularity))
 
     -- 5 exactly when size and alignment are in order, and the granularity has not exactly one bit set.
     pub refused-5 : place r b ≡ refused 5 ↔ ((1 ≤ r.size) × Pow64 r.alignment × (Pow64 r.granularity → ⊥))
     refused-5 =
-        Iff·trans (early 5 (omega arith) (omega arith))
+        Iff.trans (early 5 (omega arith) (omega arith))
         (fault-granularity Pow64 r (power_of_two _ w.alignment) (power_of_two _ w.granularity))
 
     -- 6 exactly when all of these are in order, and the kind is not 1 or 2.
     pub refused-6 : place r b ≡ refused 6
         ↔ ((1 ≤ r.size) × Pow64 r.alignment × Pow64 r.granularity × (r.kind ≢ 1) × (r.kind ≢ 2))
     refused-6 =
-        Iff·trans (early 6 (omega arith) (omega arith))
+        Iff.trans (early 6 (omega arith) (omega arith))
         (fault-kind Pow64 r (power_of_two _ w.alignment) (power_of_two _ w.granularity))
 
     well-formed : (n : ℕ) → 7 ≤ n → place r b ≡ refused n → WellFormed r

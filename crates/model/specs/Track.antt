@@ -1,7 +1,7 @@
 -- The ranges that live chunks hold, by rising address, and the page rule between them. Assumes nothing.
 use Rattle.std.specs.Prelude.{ℕ, ◌+◌, ◌-◌, ◌≤◌, ◌<◌, ◌≢◌, ◌≡◌, refl}
 use Rattle.std.proofs.Math.Decide.{ℕ_discrete}
-use Rattle.std.proofs.Common.{arith, sym, ◌∙◌}
+use Rattle.std.proofs.Common.{arith, sym, ◌∙◌, ap, subst}
 use mathlib.Core.List.Memᴰ
 use mathlib.Core.List.{List, [], ◌∷◌, reverse_aux, Memᴰ}
 use Rattle.laws.specs.Cuts.{Converse, cut_all, from-right}
@@ -100,14 +100,19 @@ range-of z xs n t =
     among : {x : Range} (l : List Range) {ys rest : List Range} → xs ≡ reverse_aux l ys → ys ≡ x ∷ rest → Memᴰ x xs
     among l {ys} e f = rw e (from-right l ys _ (rw f (Memᴰ.head refl)))
 
+-- Each range is held by a live chunk, where the chunks begin at what those before them come to.
+chunk_from : (l : List Chunk) {v : ℕ} {r : List Chunk} {xs : List Range} (x : Range) → Track v r xs → v ≡ total l → Memᴰ x xs
+    → (z : Spot) × Cut (reverse_aux l r) z × (z.chunk.kind ≢ 0) × Holds (first z) z.chunk x
+chunk_from l x end at m = absurd (Memᴰ.not-nil m)
+chunk_from l x (skip {c = c} z t) at m = chunk_from (c ∷ l) x t (ap (λ n. c.size + n) at) m
+chunk_from l x (hold {c = c} {cs = cs} n h t) at (Memᴰ.head e) =
+    (record { left = l; chunk = c; right = cs }, refl, n, subst (λ s. Holds s c x) at (rw e h))
+chunk_from l x (hold {c = c} n h t) at (Memᴰ.tail m) = chunk_from (c ∷ l) x t (ap (λ k. c.size + k) at) m
+
 -- Each range is held by a live chunk.
 pub chunk_of : (l : List Chunk) {r : List Chunk} {xs : List Range} (x : Range) → Track (total l) r xs → Memᴰ x xs
     → (z : Spot) × Cut (reverse_aux l r) z × (z.chunk.kind ≢ 0) × Holds (first z) z.chunk x
-chunk_of l x end m = absurd (Memᴰ.not-nil m)
-chunk_of l x (skip {c = c} z t) m = chunk_of (c ∷ l) x t m
-chunk_of l x (hold {c = c} {cs = cs} n h t) (Memᴰ.head e) =
-    (record { left = l; chunk = c; right = cs }, refl, n, rw e h)
-chunk_of l x (hold {c = c} n h t) (Memᴰ.tail m) = chunk_of (c ∷ l) x t m
+chunk_of l x t m = chunk_from l x t refl m
 
 -- ---- giving back
 

@@ -1,7 +1,7 @@
 -- What any call on a table comes to, from what it answers on a block. Assumes nothing.
 use Rattle.std.specs.Prelude.{ℕ, ◌≤◌, List, ◌↔◌, ◌≡◌, refl}
 use Rattle.std.proofs.Common.{arith, ⊎_elim, sym, ap, ◌∙◌}
-use Rattle.std.proofs.Math.Logic.{Iff·trans}
+use Rattle.std.proofs.Math.Logic.Iff
 use Rattle.laws.specs.Reply.{Reply, accepted, refused, number, not_refused}
 use Rattle.model.specs.Block.{Block}
 use Rattle.words.specs.Words.{encode, block_of, Read, not_a_table, unsound, table, decode}
@@ -65,11 +65,11 @@ module _ {A B : Type 0} (tells : A → B) (after : A → Block) (f : Block → R
   module _ (later : (b : Block) (n : ℕ) → f b ≡ refused n → 3 ≤ n) where
     -- 1 exactly when the word count is not 4 + 7s.
     pub outcome-1 : outcome.0 ≡ refused 1 ↔ (TableWords ws → ⊥)
-    outcome-1 = Iff·trans (told-refused tells after ws _ 1) (call-refused-1 f ws later)
+    outcome-1 = Iff.trans (told-refused tells after ws _ 1) (call-refused-1 f ws later)
 
     -- 2 exactly when it is, and the table is not sound.
     pub outcome-2 : outcome.0 ≡ refused 2 ↔ (TableWords ws × (Sound ws → ⊥))
-    outcome-2 = Iff·trans (told-refused tells after ws _ 2) (call-refused-2 f ws later)
+    outcome-2 = Iff.trans (told-refused tells after ws _ 2) (call-refused-2 f ws later)
 
     -- Any other number exactly when the table is sound, and the block that it holds is answered so.
     pub outcome-later : (n : ℕ) → 3 ≤ n → {X : Type 0}

@@ -1,6 +1,6 @@
 -- Joining two free neighbours, as words: which rows change, and the block that they are then. Assumes nothing.
 use Rattle.std.specs.Prelude.{ℕ, ◌+◌, ◌≤◌, ◌≢◌, ◌≡◌, refl, length, get_or}
-use Rattle.std.proofs.Common.{arith, ⊎_elim, sym, ap, ◌∙◌}
+use Rattle.std.proofs.Common.{arith, ⊎_elim, sym, ap, subst, ◌∙◌}
 use mathlib.Core.List.{List, [], ◌∷◌, reverse_aux}
 use Rattle.laws.specs.Cuts.{cut_all, swap-all, swap-pairs, drop_all, drop-pairs}
 use Rattle.laws.specs.Every.{cases}
@@ -122,7 +122,8 @@ module _ {ws ws' : List ℕ} {k : ℕ} {left : List Chunk} {c d : Chunk} where
       let n : d.size + (c.size + total left) ≡ c.size + d.size + total left = omega arith in
       let first : first_byte_at ws m ≡ c.size + d.size + total left = ap (λ (l : List ℕ). get_or l 2 0) r ∙ n in
       let prev : k ≡ c.slot = sym h.place.slot in
-      let a : All (λ (y : Chunk). y.slot ≢ x.slot) (grown c d.size ∷ left) = rw (← (after-slot h)) (left-apart place).1 in
+      let a : All (λ (y : Chunk). y.slot ≢ x.slot) (grown c d.size ∷ left) =
+      subst (λ (s : ℕ). All (λ (y : Chunk). y.slot ≢ s) (grown c d.size ∷ left)) (after-slot h) (left-apart place).1 in
       j.after f
       ∙ (λ i.
       get_or (r i) 0 0 ∷ get_or (r i) 1 0 ∷ first i ∷ get_or (r i) 3 0 ∷ get_or (r i) 4 0 ∷ get_or (r i) 5 0 ∷ prev i ∷ [])

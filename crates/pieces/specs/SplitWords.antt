@@ -1,6 +1,6 @@
 -- Splitting a free chunk, as words: which rows change, and the block that they are then. Assumes nothing.
 use Rattle.std.specs.Prelude.{ℕ, suc, ◌+◌, ◌-◌, ◌≤◌, false, ◌≢◌, ◌≡◌, refl, length, get_or}
-use Rattle.std.proofs.Common.{arith, ⊎_elim, sym, ap, ◌∙◌}
+use Rattle.std.proofs.Common.{arith, ⊎_elim, sym, ap, subst, ◌∙◌}
 use mathlib.Core.List.{List, [], ◌∷◌, reverse_aux}
 use Rattle.laws.specs.Cuts.{cut_all}
 use Rattle.laws.specs.Every.{cases}
@@ -119,7 +119,7 @@ module _ {ws ws' : List ℕ} {k new n kind label : ℕ} {c : Chunk} {right : Lis
       let free : kind_at ws k ≡ 0 = ap (λ (l : List ℕ). get_or l 3 0) r ∙ h.free in
       let unnamed : label_at ws k ≡ 0 = ap (λ (l : List ℕ). get_or l 4 0) r ∙ h.unnamed in
       let a : All (λ (x : Chunk). x.slot ≢ c.slot) (p ∷ left) =
-      (λ (e : new ≡ c.slot). new-other h u (e ∙ h.place.slot), rw h.place.slot (left-apart h.place)) in
+      (λ (e : new ≡ c.slot). new-other h u (e ∙ h.place.slot), subst (λ (s : ℕ). All (λ (x : Chunk). x.slot ≢ s) left) (sym h.place.slot) (left-apart h.place)) in
       j.remainder
       ∙ (λ i. get_or (r i) 0 0 ∷ (get_or (r i) 1 0 - n) ∷ first i ∷ free i ∷ unnamed i ∷ get_or (r i) 5 0 ∷ new ∷ [])
       ∙ sym (row_at-cut (remainder_of c n) (p ∷ left) right (slot_unused c.slot (p ∷ left) a))

@@ -28,7 +28,7 @@ fields-kept r = (refl, refl, refl, refl, refl)
 -- a request as the code holds one, in some machine values: a struct of five `u64`
 abbrev pub Typed : declared.Request → List Val → Type 0
 Typed r vs =
-    Is (Struct record { name = []; args = []; fields = u64 ∷ u64 ∷ u64 ∷ u64 ∷ u64 ∷ [] })
+    Is (Struct record { name = []; args = []; types = []; fields = u64 ∷ u64 ∷ u64 ∷ u64 ∷ u64 ∷ [] })
     (r.size, (r.alignment, (r.kind, (r.granularity, (r.label, tt))))) vs
 
 -- Every one of them is of 64-bit words.

@@ -1,7 +1,7 @@
 -- The tests of a block's rules come to its soundness. Assumes nothing.
 use Rattle.std.specs.Prelude.{ℕ, ◌≤◌, ◌<◌, Bool, true, false, not, cond, List, [], ◌∷◌, map, ◌≢◌, ◌↔◌, ◌≡◌, refl, eqb}
 use Rattle.std.proofs.lemmas.Bool.{false≢true, eqb-false, not-true}
-use Rattle.std.proofs.Math.Logic.{Iff·trans}
+use Rattle.std.proofs.Math.Logic.Iff
 use Rattle.std.proofs.Common.{ap, eqb-true, eq-eqb, ne_eqb, leb-true, le-leb, ltb-true, lt-ltb}
 use Rattle.laws.specs.Counting.{distinct-pairs}
 use Rattle.laws.specs.Every.{pass, none, more, two}
@@ -20,7 +20,7 @@ when false u = (λ e h. absurd (false≢true h), λ f. refl)
 -- ---- numbers of chunks that differ
 
 differ : (f : Chunk → ℕ) (cs : List Chunk) → distinct (map f cs) ≡ true ↔ Pairwise (λ x y. f x ≢ f y) cs
-differ f cs = Iff·trans (distinct-pairs (map f cs)) (pairs-mapped f _ cs)
+differ f cs = Iff.trans (distinct-pairs (map f cs)) (pairs-mapped f _ cs)
 
 -- ---- each chunk
 
