@@ -16,6 +16,7 @@ pub struct Request {
 
 impl Request {
     // The number of the first fault, 0 where the request is well formed.
+    #[tactic(auto, unfolding(model::specs::Placing::fault))]
     pub fn fault(self) -> u64
         ensures { result ≡ fault (request_of self) }
     {

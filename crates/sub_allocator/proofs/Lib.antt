@@ -1,2 +1,0 @@
--- The ways out of the test of a request.
-pub mod Faults
