@@ -1,17 +1,27 @@
 //! Makes the proved archive, by the script `archive` beside this file, and links it.
 
 use std::env;
+use std::fs;
 use std::path::{Path, PathBuf};
 use std::process::Command;
 
 fn main() {
     let package = folder("CARGO_MANIFEST_DIR");
     let root = package.parent().expect("host/ stands in the repository");
-    for source in ["crates", "crates.txt", "host/archive"] {
+    for source in ["crates.txt", "host/archive"] {
         println!("cargo:rerun-if-changed={}", root.join(source).display());
     }
+    // not a crate's out/, which making the archive changes
+    for entry in fs::read_dir(root.join("crates")).expect("the crates stand in crates/") {
+        let folder = entry.expect("a crate is a folder").path();
+        for source in ["src", "specs", "proofs"].map(|part| folder.join(part)) {
+            if source.exists() {
+                println!("cargo:rerun-if-changed={}", source.display());
+            }
+        }
+    }
 
-    // In cargo's own folder, because `rt ci` removes the repository's target/ at any time.
+    // In cargo's own folder, because `rt ci` sets aside what stands in the crates' out/ at any time.
     let out = folder("OUT_DIR");
     make_archive(&package, &out);
     println!("cargo:rustc-link-search=native={}", out.display());

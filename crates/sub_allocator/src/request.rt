@@ -5,7 +5,7 @@ ghost use Rattle.sub_allocator.specs.Requests.{request_of};
 
 use pages;
 
-#[derive(Drop)]
+#[derive(Clone, Copy)]
 pub struct Request {
     pub size: u64,
     pub alignment: u64,

@@ -17,11 +17,10 @@ const HEAD: &str = "\
 -- Runs of random calls as the Rust answers them, and the blocks after them, by computing. Assumes nothing.
 -- Made in host/compare by `cargo run --release --bin record_runs FILE`: the answers of gpu-allocator 0.28.0 with
 -- docs/oracle.patch. It has no slots and is not asked about ids that are not live: slots, 9 and 10 are the paper's.
-use mathlib.Core.List.{List, [], _∷_}
-use mathlib.Core.Path.{_≡_, refl}
-use Rattle·model·specs.specs.Lines.{line, lines, ask, chunk, beginAt}
-use Rattle·model·specs.specs.Runs.{Call, run, begin}
-use Rattle·model·specs.specs.Runs.Call.{free, renameTo}
+use Rattle.std.specs.Prelude.{List, [], ◌∷◌, ◌≡◌, refl}
+use Rattle.model.specs.Lines.{line, lines, ask, chunk, begin_at}
+use Rattle.model.specs.Runs.{Call, run, begin}
+use Rattle.model.specs.Runs.Call.{free, rename_to}
 ";
 
 /// The next id of a new block.
@@ -183,7 +182,7 @@ fn statements(number: usize, run: &[Step]) -> String {
         (format!("(begin {size} {slots})"), "fresh block")
     } else {
         (
-            format!("(beginAt {next_id} {size} {slots})"),
+            format!("(begin_at {next_id} {size} {slots})"),
             "block, fresh but for its next id,",
         )
     };
@@ -193,19 +192,19 @@ fn statements(number: usize, run: &[Step]) -> String {
     let (count, next_id) = (run.len(), last.after.next_id);
     format!(
         "
-abbrev calls-{number} : List Call
-calls-{number} =
+abbrev calls_{number} : List Call
+calls_{number} =
     {calls}
 
 -- The lines of {count} calls on a {fresh} of {size} bytes with {slots} slots.
 pub answers-{number} :
-    lines calls-{number} {start}
+    lines calls_{number} {start}
     ≡ {lines}
 unfolding lines
 answers-{number} = refl
 
 -- And the block after them.
-pub block-{number} : run calls-{number} {start} .block ≡ record {{
+pub block_{number} : (run calls_{number} {start}).block ≡ record {{
   size = {size};
   next = {next_id};
   slots = {slots};
@@ -213,7 +212,7 @@ pub block-{number} : run calls-{number} {start} .block ≡ record {{
       {chunks};
 }}
 unfolding lines
-block-{number} = refl
+block_{number} = refl
 "
     )
 }
@@ -235,7 +234,7 @@ impl Display for Call {
                 label,
             }) => write!(f, "ask {size} {alignment} {kind} {granularity} {label}"),
             Call::Free(id) => write!(f, "free {id}"),
-            Call::Rename(id, label) => write!(f, "renameTo {id} {label}"),
+            Call::Rename(id, label) => write!(f, "rename_to {id} {label}"),
         }
     }
 }
