@@ -1,4 +1,6 @@
 // Giving back a live chunk by its id, and renaming it.
+#![tactic(auto)]
+
 ghost use Rattle.std.specs.Prelude.{◌≡◌};
 ghost use Rattle.laws.specs.Reply.{number};
 ghost use Rattle.model.specs.Block.{Spot};

@@ -1,3 +1,2 @@
 -- The laws that the proofs of `opening` share. Assumes nothing.
-pub mod Made
 pub mod Asked

@@ -7,6 +7,7 @@ use sub_allocator::answers::Created;
 use table::layout;
 use words::{fresh, ranges};
 
+#[tactic(auto, unfolding(crate::specs::Creation::new_on))]
 pub fn new(words: &mut [u64], size: u64) -> Created
     ensures { (reply_created result, words.new) ≡ new_on words.old size }
 {

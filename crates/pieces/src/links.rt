@@ -6,6 +6,7 @@ ghost use Rattle.pieces.specs.Stores.{next_of_set, previous_of_set};
 use stores;
 
 // Slot k comes after slot p.
+#[tactic(auto, unfolding(crate::specs::Stores::next_of_set))]
 pub fn set_next_of(w: &mut [u64], p: u64, k: u64)
     requires { (4 ≤ length w.old) × (p ≤ slot_count w.old) }
     ensures { w.new ≡ next_of_set w.old p k }
@@ -18,6 +19,7 @@ pub fn set_next_of(w: &mut [u64], p: u64, k: u64)
 }
 
 // Slot k comes before slot n.
+#[tactic(auto, unfolding(crate::specs::Stores::previous_of_set))]
 pub fn set_previous_of(w: &mut [u64], n: u64, k: u64)
     requires { n ≤ slot_count w.old }
     ensures { w.new ≡ previous_of_set w.old n k }

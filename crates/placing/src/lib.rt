@@ -1,4 +1,6 @@
 // Placing: the offset and the id that a request is given, and the table after it.
+#![tactic(auto)]
+
 ghost use Rattle.std.specs.Prelude.{◌≡◌};
 ghost use Rattle.sub_allocator.specs.Requests.{request_of};
 ghost use Rattle.sub_allocator.specs.Answers.{reply_placement};

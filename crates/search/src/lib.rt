@@ -1,4 +1,6 @@
 // What is looked up in a sound table: where a request fits, and which slot is meant.
+#![tactic(auto)]
+
 pub mod best;
 pub mod empty;
 pub mod fit;

@@ -1,4 +1,6 @@
 // The size of one block: adjusted, tested, between a minimum and a maximum, and grown from one to the other.
+#![tactic(auto)]
+
 ghost use Rattle.std.specs.Prelude.{true, ◌≡◌};
 ghost use Prim.Native.Nat;
 ghost use Rattle.size_ranges.specs.SizeRanges.{adjust, is_block_size, is_range, grown};
@@ -17,6 +19,7 @@ pub fn max(a: u64, b: u64) -> u64
     if a < b { b } else { a }
 }
 
+#[tactic(auto, unfolding(crate::specs::SizeRanges::adjust, laws::specs::Rounding::align_up, laws::specs::Rounding::align_down))]
 pub fn adjust_memblock_size(size: u64) -> u64
     ensures { result ≡ adjust size }
 {
@@ -28,6 +31,7 @@ pub fn adjust_memblock_size(size: u64) -> u64
     val * 4 * MB
 }
 
+#[tactic(auto, unfolding(crate::specs::SizeRanges::is_block_size))]
 fn is_block_size(size: u64) -> bool
     ensures { result ≡ is_block_size size }
 {
@@ -40,6 +44,7 @@ fn is_block_size(size: u64) -> bool
     size % (4 * MB) == 0
 }
 
+#[tactic(auto, unfolding(crate::specs::SizeRanges::is_range))]
 pub fn is_range(least: u64, most: u64) -> bool
     ensures { result ≡ is_range least most }
 {

@@ -1,12 +1,8 @@
 -- The answers of `is_sound`: the head, the walk and the other slots together decide. Assumes nothing.
-use Prim.Native.Nat.{ℕ, ◌-◌, ◌≤◌}
-use native.Mathlib.Nat.{le_trans, le_of_eq}
-use mathlib.Core.Bool.{Bool, true, false}
-use mathlib.Core.List.{List}
-use mathlib.Core.Logic.{◌≢◌}
-use mathlib.Core.Path.{◌≡◌, refl, ap, ◌∙◌}
-use borrow.Author.Tests.{leb-true}
-use lib.ListN.{replicate, get_or-replicate, length-replicate, get_or-eq_default}
+use Rattle.std.proofs.Common.{◌≡◌, ℕ, ◌-◌, ◌≤◌, Bool, true, false, ◌≢◌, List, refl, ap, ◌∙◌, leb-true}
+use Rattle.std.proofs.Math.Nat.{le_trans, le_of_eq}
+use Rattle.std.proofs.Math.ListN.{replicate, get_or-eq_default}
+use Rattle.std.proofs.lemmas.List.{get_or-replicate, length-replicate}
 use Rattle.laws.specs.Every.{pass, more, none, together, clash}
 use Rattle.laws.specs.Tests.{either}
 use Rattle.table.specs.Layout.{is_table, slot_count, block_size, next_id}

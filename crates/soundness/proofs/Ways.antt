@@ -1,33 +1,10 @@
 -- What each way through the parts of the check answers. Assumes nothing.
-use Prim.Native.Nat.{ℕ, zero, suc, ◌-◌, ◌≤◌, ◌<◌}
-use native.Mathlib.Omega.{arith}
-use native.Mathlib.Numerals.{sub-one}
-use mathlib.Core.Bool.{true, false}
-use mathlib.Core.List.{List, [], ◌∷◌}
-use mathlib.Core.Logic.{◌≢◌}
-use mathlib.Core.Path.{◌≡◌, refl, sym, ap, ◌∙◌}
-use borrow.Author.Tests.{eqb-true, lt-leb, le-leb, eq-eqb, ne_eqb}
-use lib.Bits.{bit_or, or_add_and, and_le_l, and_le_r}
-use lib.Dec.{eqb, leb}
-use Rattle.laws.specs.Every.{every, pass, fail, more, none, rest, second, together}
-use Rattle.model.specs.Block.{largest_block}
-use Rattle.table.specs.Layout.{block_size, next_id, id_at, size_at, first_byte_at, kind_at, label_at, next_at, previous_at}
-use Rattle.words.specs.Checks.{head_ok, others_zero, empty_below}
-
--- ---- `head_ok`
-
-module _ (ws : List ℕ) where
-  pub no_bytes : block_size ws < 1 → false ≡ head_ok ws
-  unfolding head_ok
-  no_bytes h = sym (fail _ 0 (lt-leb 1 (block_size ws) h))
-
-  pub too_large : largest_block < block_size ws → false ≡ head_ok ws
-  unfolding head_ok
-  too_large h = sym (fail _ 1 (lt-leb (block_size ws) largest_block h))
-
-  pub by_next : 1 ≤ block_size ws → block_size ws ≤ largest_block → leb 2 (next_id ws) ≡ head_ok ws
-  unfolding head_ok
-  by_next h l = sym (rest _ _ (le-leb 1 (block_size ws) h) ∙ second _ _ (le-leb (block_size ws) largest_block l))
+use Rattle.std.proofs.Common.{◌≡◌, ℕ, zero, suc, ◌-◌, true, false, eqb, ◌≢◌, List, [], ◌∷◌, sym, refl, ap, ◌∙◌, sub-one, arith, eqb-true, eq-eqb, ne_eqb}
+use Rattle.std.proofs.lemmas.Nat.{and_le_l, and_le_r}
+use Rattle.std.specs.Int.Bits.{bit_or, or_add_and}
+use Rattle.laws.specs.Every.{every, pass, fail, more, none, second, together}
+use Rattle.table.specs.Layout.{id_at, size_at, first_byte_at, kind_at, label_at, next_at, previous_at}
+use Rattle.words.specs.Checks.{others_zero, empty_below}
 
 -- ---- `others_zero`: no bit is set in any of the words
 

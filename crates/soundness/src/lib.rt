@@ -1,4 +1,6 @@
 // Whether a table is sound: the walk along "next" keeps the rules, and every other slot is seven zeros.
+#![tactic(auto)]
+
 ghost use Rattle.std.specs.Prelude.{true, ◌≡◌};
 ghost use Rattle.table.specs.Layout.{is_table, slot_count, Slot};
 ghost use Rattle.words.specs.Words.{sound};
@@ -46,6 +48,7 @@ fn rest_empty(w: &[u64], s: u64, empty: u64) -> bool
 }
 
 // Whether the block size is 1 to 2^40 and the next id at least 2.
+#[tactic(auto, unfolding(words::specs::Checks::head_ok, laws::specs::Every::every))]
 fn head_ok(w: &[u64]) -> bool
     requires { is_table w.now ≡ true }
     ensures { result ≡ head_ok w.now }

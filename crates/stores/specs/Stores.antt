@@ -2,7 +2,7 @@
 use Rattle.std.specs.Prelude.{ℕ, ◌≤◌, ◌<◌, List, [], ◌∷◌, ◌≢◌, ◌≡◌, refl, length, get_or, set}
 use Rattle.std.proofs.Common.{arith, ⊎_elim, sym, ap, ◌∙◌, length-set, ext_get_or, get_or-set_same, get_or-set_other}
 use Rattle.laws.specs.Members.{eq_or_not}
-use Rattle.table.specs.Layout.{Slot, at, word, row, row_word}
+use Rattle.table.specs.Layout.{Slot, at, row, row_word}
 
 -- ---- the words of slot k written over, its front first
 

@@ -1,4 +1,6 @@
 // Writing the words of a table, one at a time or a slot's seven.
+#![tactic(auto)]
+
 ghost use Rattle.std.specs.Prelude.{◌≡◌, ◌+◌, ◌-◌, ◌≤◌, ◌<◌, ◌^◌, length, set};
 ghost use Rattle.table.specs.Layout.{Slot, at, allocated_word, next_id};
 ghost use Rattle.stores.specs.Stores.{set_front, set_back, set_row};
@@ -101,6 +103,7 @@ pub fn set_previous(w: &mut [u64], k: u64, v: u64)
 }
 
 // The first four words of slot k.
+#[tactic(auto, unfolding(crate::specs::Stores::set_front))]
 fn set_front(w: &mut [u64], k: u64, id: u64, size: u64, first_byte: u64, kind: u64)
     requires { Slot w.old k }
     ensures { w.new ≡ set_front w.old k id size first_byte kind }
@@ -112,6 +115,7 @@ fn set_front(w: &mut [u64], k: u64, id: u64, size: u64, first_byte: u64, kind: u
 }
 
 // Its last three words.
+#[tactic(auto, unfolding(crate::specs::Stores::set_back))]
 fn set_back(w: &mut [u64], k: u64, label: u64, next: u64, previous: u64)
     requires { Slot w.old k }
     ensures { w.new ≡ set_back w.old k label next previous }
@@ -122,6 +126,7 @@ fn set_back(w: &mut [u64], k: u64, label: u64, next: u64, previous: u64)
 }
 
 // All seven words of slot k.
+#[tactic(auto, unfolding(crate::specs::Stores::set_row))]
 pub fn set_slot(
     w: &mut [u64],
     k: u64,

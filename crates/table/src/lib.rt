@@ -1,2 +1,4 @@
 // The chunk table as lent words: where each of them stands.
+#![tactic(auto)]
+
 pub mod layout;

@@ -1,7 +1,7 @@
 -- The product that gives an id its bucket, factor by factor. Assumes nothing.
 use Rattle.std.proofs.Common.{◌≡◌, ℕ, ◌+◌, ◌-◌, ◌*◌, ◌/◌, ◌%◌, ◌^◌, ◌<◌, sym, ap, ◌∙◌, mul_assoc, mul_comm, add-mul, add_comm, div-add-mod'}
-use native.Mathlib.Nat.{add-mul-mod_self_right}
-use lib.Bits.{bit_xor}
+use Rattle.std.proofs.Math.Nat.{add-mul-mod_self_right}
+use Rattle.std.specs.Int.Bits.{bit_xor}
 use Rattle.words.specs.Ids.{bucket_of, bucket_below}
 
 -- A factor more, of what stayed below m.

@@ -1,6 +1,6 @@
 -- The chains of the buckets: that they hold every slot entered, each under its id. Assumes nothing.
-use Rattle.std.proofs.Common.{◌≡◌, ℕ, zero, suc, ◌+◌, ◌-◌, ◌<◌, ◌≤◌, Bool, true, false, cond, not, eqb, ◌≢◌, ◌⊎◌, List, [], ◌∷◌, length, get_or, drop, set, sym, refl, ap, ◌∙◌, ⊎_elim, sub-one, arith, length-set, get_or-set_other, get_or-set_same, eq-eqb, ne_eqb}
-use lib.Seq.{set_out}
+use Rattle.std.proofs.Common.{◌≡◌, ℕ, zero, suc, ◌+◌, ◌-◌, ◌<◌, ◌≤◌, Bool, true, false, cond, not, eqb, ◌≢◌, List, [], ◌∷◌, length, get_or, drop, set, sym, refl, ap, ◌∙◌, ⊎_elim, sub-one, arith, length-set, get_or-set_other, get_or-set_same, eq-eqb, ne_eqb}
+use Rattle.std.proofs.Math.Seq.{set_out}
 use Rattle.laws.specs.Members.{has, has-head, has_same, has_other, not_head, eq_or_not}
 use Rattle.laws.specs.Tests.{cond_cases, either}
 use Rattle.table.specs.Layout.{id_at}

@@ -1,5 +1,4 @@
 -- The laws that the proofs of `walking` share. Assumes nothing.
-pub mod Ways
 pub mod Buckets
 pub mod Chains
 pub mod Turns

@@ -1,6 +1,6 @@
 -- One turn of the walk's loop: what stands before it, and what each way through it comes to. Assumes nothing.
 use Rattle.std.proofs.Common.{◌≡◌, ℕ, ◌+◌, ◌-◌, ◌%◌, ◌^◌, ◌<◌, ◌≤◌, Bool, true, false, cond, eqb, List, [], ◌∷◌, length, sym, refl, ◌∙◌, mod-eq_of_lt, arith, eqb-true, le-leb, leb-true}
-use borrow.Author.Tests.{lt-leb}
+use Rattle.std.proofs.lemmas.Bool.{lt-leb}
 use Rattle.laws.specs.Every.{pass, fail, more, none, clash}
 use Rattle.laws.specs.Tests.{either}
 use Rattle.model.specs.Block.{live_size}

@@ -1,4 +1,6 @@
 // The walk along "next" through a table, which tests each chunk that it meets.
+#![tactic(auto)]
+
 use table::layout;
 use words::ranges;
 
@@ -18,6 +20,7 @@ enum Live {
 }
 
 // Whether slot k can follow slot prev, at the address first.
+#[tactic(auto, unfolding(words::specs::Checks::links_ok, laws::specs::Every::every))]
 fn links_ok(w: &[u64], prev: u64, first: u64, k: u64) -> bool
     requires { Slot w.now k }
     ensures { result ≡ links_ok w.now prev first k }
@@ -29,6 +32,7 @@ fn links_ok(w: &[u64], prev: u64, first: u64, k: u64) -> bool
 }
 
 // before is the kind of the chunk before, since no two neighbours may be free.
+#[tactic(auto, unfolding(crate::specs::Answers::live_of, words::specs::Checks::kind_ok, laws::specs::Every::every))]
 fn live_bytes(w: &[u64], before: u64, k: u64) -> Live
     requires { Slot w.now k }
     ensures { result ≡ live_of w.now before k }
@@ -90,6 +94,7 @@ pub fn walk(w: &[u64], s: u64, buckets: &mut [u16; 1024]) -> u64
 }
 
 // The walk ended at slot 0, at the block size, and with the live bytes that the head has.
+#[tactic(auto, unfolding(crate::specs::Answers::walk_end, laws::specs::Every::every))]
 fn walk_end(w: &[u64], k: u64, first: u64, sum: u64, n: u64) -> u64
     requires { is_table w.now ≡ true }
     ensures { result ≡ walk_end w.now k first sum n }

@@ -1,5 +1,5 @@
 -- What each way through the test of a range answers. Assumes nothing.
-use Prim.Native.Nat.{ℕ, ◌-◌, ◌≤◌, ◌<◌}
+use Prim.Native.Nat.{ℕ, ◌≤◌, ◌<◌}
 use mathlib.Core.Bool.{false}
 use mathlib.Core.Path.{◌≡◌, sym}
 use borrow.Author.Tests.{lt-leb, le-leb}

@@ -1,3 +1,5 @@
 // The chunk table as lent words: how a fresh one is written. What they mean is in specs/.
+#![tactic(auto)]
+
 pub mod fresh;
 pub mod ranges;
