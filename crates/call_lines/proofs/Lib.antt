@@ -1,2 +1,3 @@
--- What the proofs of the functions share.
-pub mod Steps
+-- What is true of reading every line, and what is on the way there.
+pub mod FromBytes
+pub mod LineRead

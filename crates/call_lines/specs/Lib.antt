@@ -10,4 +10,3 @@ pub mod FormatExamples
 -- on the way
 pub mod ReadSteps
 pub mod Pushing
-pub mod FromBytes

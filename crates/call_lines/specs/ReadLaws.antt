@@ -1,23 +1,10 @@
 -- What is true of reading a line one byte at a time. Assumes nothing.
 use Rattle.std.specs.Prelude.{ℕ, ◌+◌, ◌-◌, ◌*◌, Bool, true, false, cond, List, [], ◌∷◌, ◌++◌, ◌≡◌, refl, eqb}
-use Rattle.std.proofs.Common.{⊎_elim, sym, ap, ◌∙◌}
-use Rattle.laws.specs.Every.{every, cases}
+use Rattle.laws.specs.Every.{every}
 use Rattle.laws.specs.Tests.{cond_cases}
-use Rattle.call_lines.specs.Format.{cut, fields, is_digit, asked_in, read_line}
-use Rattle.call_lines.specs.Reading.{fresh, unreadable, lettered, numbered, spaced, digit_tests, with_digit, space_tests, with_space, is_letter, letter_tests, with_letter, fed, fed_all, is_asking, asked, is_begun}
-use Rattle.call_lines.specs.ReadSteps.{letter_no_space, first-letter, first-other}
+use Rattle.call_lines.specs.Format.{is_digit}
+use Rattle.call_lines.specs.Reading.{fresh, unreadable, lettered, numbered, spaced, digit_tests, with_digit, space_tests, with_space, letter_tests, with_letter, fed, fed_all, is_begun}
 use Rattle.call_lines.specs.declared.line.Line.{Line}
-use Rattle.call_lines.specs.FromBytes.{next, dead, cut-other, after-letter, unread}
-
--- Of every line, the reader that is fed its bytes asks for what the format says that the line asks for.
-pub line_read : (s : List ℕ) → asked (fed_all fresh s) ≡ read_line s
-unfolding fed_all asked is_asking every read_line fields cut asked_in
-line_read [] = refl
-line_read (b ∷ s) =
-    ⊎_elim
-    (λ e. next fresh (lettered b) b s (first-letter b e) (after-letter s b ∙ sym (ap asked_in (cut-other b s (letter_no_space b e)))))
-    (λ e. dead fresh b s (first-other b e) (unread b s e))
-    (cases (is_letter b))
 
 -- Bytes that come in two parts are fed one part after the other.
 pub fed-parts : (l : Line) (s t : List ℕ) → fed_all l (s ++ t) ≡ fed_all (fed_all l s) t

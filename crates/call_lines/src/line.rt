@@ -5,7 +5,7 @@ ghost use Rattle.call_lines.specs.Reading.{fresh, unreadable, is_letter, with_di
 
 use crate::asked::Asked;
 
-#[derive(Drop)]
+#[derive(Clone, Copy)]
 pub struct Line {
     // What came last: 0 nothing yet, 2 the letter, 3 a digit, 4 a space; 1 once the line is unreadable.
     stage: u64,
@@ -21,6 +21,7 @@ pub struct Line {
 }
 
 // "n", "a" and "f" begin a line.
+#[tactic(auto, unfolding(crate::specs::Reading::is_letter))]
 fn is_letter(byte: u8) -> bool
     ensures { result ≡ is_letter byte }
 {
@@ -60,6 +61,7 @@ impl Line {
     }
 
     // One byte more, which is not a line feed.
+    #[tactic(auto, unfolding(crate::specs::Reading::fed, laws::specs::Every::every))]
     pub fn fed(self, byte: u8) -> Line
         ensures { result ≡ fed self byte }
     {
@@ -76,6 +78,7 @@ impl Line {
     }
 
     // The number at hand goes on, while it fits a word.
+    #[tactic(auto, unfolding(crate::specs::Reading::with_digit, laws::specs::Every::every))]
     fn with_digit(self, digit: u64) -> Line
         requires { digit ≤ 9 }
         ensures { result ≡ with_digit self digit }
@@ -93,6 +96,7 @@ impl Line {
     }
 
     // The number at hand is whole, and the next begins.
+    #[tactic(auto, unfolding(crate::specs::Reading::with_space, laws::specs::Every::every))]
     fn with_space(self) -> Line
         ensures { result ≡ with_space self }
     {
@@ -118,6 +122,7 @@ impl Line {
     }
 
     // A letter is the first byte.
+    #[tactic(auto, unfolding(crate::specs::Reading::with_letter, laws::specs::Every::every))]
     fn with_letter(self, byte: u8) -> Line
         ensures { result ≡ with_letter self byte }
     {
@@ -134,6 +139,7 @@ impl Line {
     }
 
     // The line ends in a number, after this letter and so many numbers.
+    #[tactic(auto, unfolding(crate::specs::Reading::is_asking, laws::specs::Every::every))]
     fn is_asking(self, letter: u8, count: u64) -> bool
         ensures { result ≡ is_asking self letter count }
     {
@@ -147,6 +153,7 @@ impl Line {
     }
 
     // The line ends here: what it asks for.
+    #[tactic(auto, unfolding(crate::specs::Reading::asked))]
     pub fn asked(self) -> Asked
         ensures { asked_of result ≡ asked self }
     {
@@ -172,6 +179,7 @@ impl Line {
     }
 
     // Whether the line has a byte.
+    #[tactic(auto, unfolding(crate::specs::Reading::is_begun))]
     pub fn is_begun(self) -> bool
         ensures { result ≡ is_begun self }
     {

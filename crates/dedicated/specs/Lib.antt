@@ -2,9 +2,7 @@
 
 -- the definitions
 pub mod Dedicated
--- when each call is refused and what it answers otherwise; what it keeps; that it has one outcome
-pub mod Exactly
-pub mod Kept
+-- that each call has one outcome
 pub mod Determined
 -- worked examples
 pub mod DedicatedExamples

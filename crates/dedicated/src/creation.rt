@@ -4,6 +4,7 @@ ghost use Rattle.dedicated.specs.Dedicated.{new_block, reply_new};
 
 use crate::record::{DedicatedBlock, New};
 
+#[tactic(auto, unfolding(crate::specs::Dedicated::new_block))]
 pub fn new(size: u64) -> New
     ensures { reply_new result ≡ new_block size }
 {

@@ -6,6 +6,7 @@ ghost use Rattle.dedicated.specs.Dedicated.{allocated_in, is_empty_in, report_of
 use crate::record::{DedicatedBlock, Report};
 use sub_allocator::answers::{IsEmpty, Total};
 
+#[tactic(auto, unfolding(crate::specs::Dedicated::allocated_in))]
 pub fn allocated(block: DedicatedBlock) -> Total
     ensures { reply_total result ≡ allocated_in block }
 {
@@ -15,6 +16,7 @@ pub fn allocated(block: DedicatedBlock) -> Total
     Total::Bytes(block.allocated)
 }
 
+#[tactic(auto, unfolding(crate::specs::Dedicated::is_empty_in))]
 pub fn is_empty(block: DedicatedBlock) -> IsEmpty
     ensures { reply_is_empty result ≡ is_empty_in block }
 {
@@ -25,6 +27,7 @@ pub fn is_empty(block: DedicatedBlock) -> IsEmpty
 }
 
 // One entry, whether the block is occupied or not.
+#[tactic(auto, unfolding(crate::specs::Dedicated::report_of))]
 pub fn report_allocations(block: DedicatedBlock) -> Report
     ensures { reply_report result ≡ report_of block }
 {

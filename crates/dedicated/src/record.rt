@@ -5,7 +5,7 @@ ghost use Rattle.dedicated.specs.Dedicated.{is_sound, reply_new, reply_report};
 
 use sub_allocator::answers::{Changed, Placement};
 
-#[derive(Drop)]
+#[derive(Clone, Copy)]
 pub struct DedicatedBlock {
     pub size: u64,
     pub allocated: u64,
@@ -45,6 +45,7 @@ pub struct Changing {
 
 impl DedicatedBlock {
     // At least one byte, and none or all of them allocated.
+    #[tactic(auto, unfolding(crate::specs::Dedicated::is_sound))]
     pub fn is_sound(self) -> bool
         ensures { result ≡ is_sound self }
     {

@@ -5,7 +5,7 @@ pub mod Leaks
 -- the live chunks of a table, and what is handed out of them, in words alone
 pub mod Lives
 pub mod Handed
--- every live chunk once, then the end; refusals; one answer and one place
+-- the steps of a walk; refusals; one answer and one place
 pub mod Walked
 pub mod Refusals
 pub mod Determined

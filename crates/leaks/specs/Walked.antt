@@ -1,20 +1,9 @@
--- The walk, step by step: every live chunk once, by rising address, then the end. Assumes nothing.
-use Rattle.std.specs.Prelude.{ℕ, zero, suc, ◌+◌, ◌≤◌, Bool, true, false, cond, ◌≡◌, refl, leb, length, replicate}
-use Rattle.std.proofs.Common.{arith, sym, subst, ◌∙◌, leb-true, leb-false, le-leb}
+-- The walk, step by step, and the answers of one that hands out every chunk. Assumes nothing.
+use Rattle.std.specs.Prelude.{ℕ, zero, suc, replicate}
 use mathlib.Core.List.{List, [], ◌∷◌, ◌++◌, map}
 use Rattle.std.proofs.Math.Option.{Option, none, some}
-use Rattle.std.proofs.Math.Path.{ap}
-use Rattle.std.proofs.lemmas.Bool.{lt-leb}
-use Rattle.laws.specs.Lists.{All, Pairwise, all_map, all_of}
 use Rattle.laws.specs.Reply.{Reply, accepted}
-use Rattle.laws.specs.Tests.{cond_cases}
-use Rattle.words.specs.Soundness.{Sound}
-use Rattle.opening.specs.Looked.{TableWords}
-use Rattle.leaks.specs.Leaks.{Live, place_after, step_on}
-use Rattle.leaks.specs.Lives.{lives, from, Before, lives-rise, lives-sizes}
-use Rattle.leaks.specs.Handed.{first_of, leak_first}
-
--- ---- the definitions
+use Rattle.leaks.specs.Leaks.{Live, step_on}
 
 -- what n steps from a place answer on an unchanged table, each from the place that the one before left
 abbrev pub walk_on : List ℕ → ℕ → ℕ → List (Reply (Option Live))
@@ -24,73 +13,3 @@ walk_on ws place (suc n) = (step_on ws place).0 ∷ walk_on ws (step_on ws place
 -- these chunks are handed out one by one, and then the end is answered so many times
 abbrev pub answers : List Live → ℕ → List (Reply (Option Live))
 answers ls n = map (λ (l : Live). accepted (some l)) ls ++ replicate n (accepted none)
-
--- ---- the chunks from an address on
-
-from_all : (address : ℕ) (ls : List Live) → All (λ l. address ≤ l.first) ls → from address ls ≡ ls
-from_all address [] h = refl
-from_all address (x ∷ ls) h =
-    rw (le-leb address x.first h.0) (ap (λ (r : List Live). x ∷ r) (from_all address ls h.1))
-
-from-above : (address : ℕ) (ls : List Live) → All (λ l. address ≤ l.first) (from address ls)
-from-above address [] = tt
-from-above address (x ∷ ls) =
-    cond_cases (All (λ l. address ≤ l.first)) (leb address x.first)
-    (λ e. (leb-true _ _ e, from-above address ls)) (λ e. from-above address ls)
-
--- those from the end of the first one on are the others
-from_next : (address : ℕ) (ls : List Live) → Pairwise Before ls → All (λ l. 1 ≤ l.size) ls
-    → (l : Live) (rest : List Live) → from address ls ≡ l ∷ rest → from (l.first + l.size) ls ≡ rest
-from_next address [] h z l rest e = let c : ◌≡◌ {A = ℕ} 0 1 = cc in absurd (omega arith)
-from_next address (x ∷ ls) h z l rest e = go (leb address x.first) refl (from_next address ls h.1 z.1 l rest) e
-  where
-    this : address ≤ x.first → from (x.first + x.size) (x ∷ ls) ≡ from address ls
-    this a =
-        rw (lt-leb (x.first + x.size) x.first (omega (arith, z.0)))
-        (from_all (x.first + x.size) ls h.0
-        ∙ sym (from_all address ls (all_map {Q = λ y. address ≤ y.first} (λ y (b : Before x y). omega arith) ls h.0)))
-
-    go : (t : Bool) → leb address x.first ≡ t → (from address ls ≡ l ∷ rest → from (l.first + l.size) ls ≡ rest)
-        → cond t (x ∷ from address ls) (from address ls) ≡ l ∷ rest
-        → from (l.first + l.size) (x ∷ ls) ≡ rest
-    go true q f e =
-        let p : x ≡ l = cc in
-        let r : from address ls ≡ rest = cc in
-        ap (λ (y : Live). from (y.first + y.size) (x ∷ ls)) (sym p) ∙ this (leb-true _ _ q) ∙ r
-    go false q f e =
-        let a : address ≤ l.first = (subst (All (λ y. address ≤ y.first)) e (from-above address ls)).0 in
-        rw (lt-leb (l.first + l.size) x.first (omega (arith, leb-false address x.first q)))
-        (f e)
-
--- ---- the theorems
-
-module _ (ws : List ℕ) (t : TableWords ws) (s : Sound ws) where
-  answer : (place : ℕ) (ls : List Live) → from place (lives ws) ≡ ls
-      → step_on ws place ≡ (accepted (first_of ls), place_after place (accepted (first_of ls)))
-  unfolding step_on
-  answer place ls e =
-      ap (λ (r : Reply (Option Live)). (r, place_after place r))
-      (leak_first ws t s place ∙ ap (λ (r : List Live). accepted (first_of r)) e)
-
-  end-again : (place n : ℕ) → from place (lives ws) ≡ [] → walk_on ws place n ≡ replicate n (accepted none)
-  end-again place zero e = refl
-  end-again place (suc n) e =
-      rw (answer place [] e) (ap (λ (r : List (Reply (Option Live))). accepted none ∷ r) (end-again place n e))
-
-  walks : (ls : List Live) (place n : ℕ) → from place (lives ws) ≡ ls → walk_on ws place (length ls + n) ≡ answers ls n
-  walks [] place n e = let z : 0 + n ≡ n = omega arith in ap (walk_on ws place) z ∙ end-again place n e
-  walks (l ∷ ls) place n e =
-      let z : suc (length ls) + n ≡ suc (length ls + n) = omega arith in
-      let f = from_next place (lives ws) (lives-rise ws t s) (lives-sizes ws t s) l ls e in
-      ap (walk_on ws place) z
-      ∙ rw (answer place (l ∷ ls) e)
-      (ap (λ (r : List (Reply (Option Live))). accepted (some l) ∷ r) (walks ls (l.first + l.size) n f))
-
-  -- Steps from any place hand out the live chunks that begin there or later, then the end, and the end again.
-  pub walk_from : (place n : ℕ)
-      → walk_on ws place (length (from place (lives ws)) + n) ≡ answers (from place (lives ws)) n
-  walk_from place n = walks (from place (lives ws)) place n refl
-
-  -- A walk hands out exactly the live chunks, once each and by rising address, then the end, and the end again.
-  pub walk-all : (n : ℕ) → walk_on ws 0 (length (lives ws) + n) ≡ answers (lives ws) n
-  walk-all n = walks (lives ws) 0 n (from_all 0 (lives ws) (all_of (λ l. 0 ≤ l.first) (lives ws) (λ l m. omega arith)))

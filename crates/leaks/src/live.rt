@@ -14,6 +14,7 @@ use opening::look;
 use table::layout;
 
 // Whether the chunk in slot k is live and begins at the address or later.
+#[tactic(auto, unfolding(crate::specs::LiveSlots::is_from_at))]
 fn is_from(w: &[u64], k: u64, address: u64) -> bool
     requires { HeldIn w.now k }
     ensures { result ≡ is_from_at w.now k address }

@@ -12,6 +12,7 @@ pub struct Stepped {
 }
 
 // The place moves to the end of the chunk that is handed out, and stays where it is at the end and on a refusal.
+#[tactic(auto, unfolding(crate::specs::Leaks::step_on))]
 pub fn step_at(words: &[u64], place: u64) -> Stepped
     ensures { stepped result ≡ step_on words.now place }
 {

@@ -7,7 +7,7 @@ use Rattle.words.specs.Words.{Read, not_a_table, unsound, table, sound, decode}
 use Rattle.words.specs.Checked.{sound-exactly}
 use Rattle.opening.specs.Look.{on_table, table_fault}
 use Rattle.opening.specs.Questions.{allocated_on, is_empty_on}
-use Rattle.opening.specs.Exactly.{allocated-head}
+use Rattle.opening.proofs.Exactly.{allocated-head}
 use Rattle.opening.specs.Fault.{unfit}
 use Rattle.opening.specs.Looked.{table_exactly}
 

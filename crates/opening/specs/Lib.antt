@@ -8,9 +8,7 @@ pub mod Calls
 -- what the look at the words tells, in the code's words and in the paper's
 pub mod Fault
 pub mod Looked
-pub mod Outcomes
--- when each call is refused, what it answers otherwise, and what a new block is
-pub mod Exactly
+-- what a new block is
 pub mod NewBlock
 -- worked examples, and tables for those of other calls
 pub mod BlockExamples

@@ -1,11 +1,13 @@
 // The sizes of memory blocks that an allocator opens, by value.
+#![tactic(auto)]
+
 ghost use Rattle.std.specs.Prelude.{◌≡◌};
 ghost use Rattle.laws.specs.Reply.{number};
 ghost use Rattle.sizes.specs.Sizes.{is_producible, new_sizes, default_sizes, set_max_device, set_max_host, memblock_size, reply_sizes, reply_size};
 
 use size_ranges::{MB, adjust_memblock_size, grow, is_range, max};
 
-#[derive(Drop)]
+#[derive(Clone, Copy)]
 pub struct AllocationSizes {
     pub min_device_memblock_size: u64,
     pub max_device_memblock_size: u64,
@@ -52,6 +54,7 @@ impl BlockSize {
 }
 
 impl AllocationSizes {
+    #[tactic(auto, unfolding(crate::specs::Sizes::new_sizes))]
     pub fn new(device_memblock_size: u64, host_memblock_size: u64) -> Self
         ensures { result ≡ new_sizes device_memblock_size host_memblock_size }
     {
@@ -77,6 +80,7 @@ impl AllocationSizes {
     }
 
     // The caller may have made the four numbers up: only those that the calls here can reach are taken.
+    #[tactic(auto, unfolding(crate::specs::Sizes::is_producible))]
     fn is_producible(self) -> bool
         ensures { result ≡ is_producible self }
     {
@@ -86,6 +90,7 @@ impl AllocationSizes {
         is_range(self.min_host_memblock_size, self.max_host_memblock_size)
     }
 
+    #[tactic(auto, unfolding(crate::specs::Sizes::if_producible, crate::specs::Sizes::set_max_device, crate::specs::Sizes::with_max_device))]
     pub fn with_max_device_memblock_size(mut self, size: u64) -> Changed
         ensures { reply_sizes result ≡ set_max_device self size }
     {
@@ -99,6 +104,7 @@ impl AllocationSizes {
         Changed::Sizes(self)
     }
 
+    #[tactic(auto, unfolding(crate::specs::Sizes::if_producible, crate::specs::Sizes::set_max_host, crate::specs::Sizes::with_max_host))]
     pub fn with_max_host_memblock_size(mut self, size: u64) -> Changed
         ensures { reply_sizes result ≡ set_max_host self size }
     {
@@ -109,6 +115,7 @@ impl AllocationSizes {
         Changed::Sizes(self)
     }
 
+    #[tactic(auto, unfolding(crate::specs::Sizes::if_producible, crate::specs::Sizes::memblock_size))]
     pub fn get_memblock_size(self, is_host: bool, count: u64) -> BlockSize
         ensures { reply_size result ≡ memblock_size self is_host count }
     {

@@ -126,7 +126,6 @@ fn set_back(w: &mut [u64], k: u64, label: u64, next: u64, previous: u64)
 }
 
 // All seven words of slot k.
-#[tactic(auto, unfolding(crate::specs::Stores::set_row))]
 pub fn set_slot(
     w: &mut [u64],
     k: u64,

@@ -4,32 +4,32 @@ ghost use Rattle.laws.specs.Reply.{number};
 ghost use Rattle.sub_allocator.specs.Answers.{reply_created, reply_placement, reply_changed, reply_total, reply_is_empty};
 
 // Of creation on lent words.
-#[derive(Drop)]
+#[derive(Clone, Copy)]
 pub enum Created {
     Done,
     Refused(u64),
 }
 
-#[derive(Drop)]
+#[derive(Clone, Copy)]
 pub enum Placement {
     Placed { offset: u64, id: u64 },
     Refused(u64),
 }
 
 // Of giving back and of renaming.
-#[derive(Drop)]
+#[derive(Clone, Copy)]
 pub enum Changed {
     Done,
     Refused(u64),
 }
 
-#[derive(Drop)]
+#[derive(Clone, Copy)]
 pub enum Total {
     Bytes(u64),
     Refused(u64),
 }
 
-#[derive(Drop)]
+#[derive(Clone, Copy)]
 pub enum IsEmpty {
     Answer(bool),
     Refused(u64),

@@ -1,4 +1,5 @@
 -- `search::best::is_better` meets its contract. Assumes nothing.
+use Rattle.std.proofs.Common.{arith}
 use Rattle.sub_allocator.specs.Requests.{request_of}
 use Rattle.search.specs.Held.{held_slot}
 use Rattle.search.proofs.BetterWays.{out_of_range, not_free, if-fits}
@@ -18,9 +19,9 @@ kind-requires c = held_slot c.requires.2
 pub returns-then-kind-ne0 : goal.returns-then-kind-ne0
 returns-then-kind-ne0 c =
     not_free _ _ (request_of c.args.request) _ _ c.requires.3 _ c.size.ensures c.wrapping_sub_u64-over.ensures.value _
-    c.kind.ensures c.if-kind-ne0.true
+    c.kind.ensures (omega (arith, c.if-kind-ne0.true))
 
 pub returns : goal.returns
 returns c =
     if-fits _ _ (request_of c.args.request) _ _ c.requires.3 _ c.size.ensures c.wrapping_sub_u64-over.ensures.value
-    c.if-spare-over.false _ c.kind.ensures c.if-kind-ne0.false _ c.fits.ensures
+    c.if-spare-over.false _ c.kind.ensures (omega (arith, c.if-kind-ne0.false)) _ c.fits.ensures
