@@ -1,4 +1,4 @@
--- On the way to `LineRead`: the bytes to come, one after the other, from each line that may be at hand. Assumes nothing.
+-- On the way to `ReadLaws`: the bytes to come, one after the other, from each line that may be at hand. Assumes nothing.
 use Rattle.std.specs.Prelude.{ℕ, ◌+◌, ◌-◌, ◌*◌, ◌^◌, ◌<◌, true, false, List, [], ◌∷◌, ◌≡◌, refl, eqb, length}
 use Rattle.std.proofs.Common.{⊎_elim, sym, ap, ◌∙◌, arith, ne_eqb}
 use Rattle.std.proofs.Math.Option.{Option, none, some}

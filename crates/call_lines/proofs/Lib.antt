@@ -1,3 +1,3 @@
 -- What is true of reading every line, and what is on the way there.
 pub mod FromBytes
-pub mod LineRead
+pub mod ReadLaws

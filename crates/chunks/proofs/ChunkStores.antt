@@ -13,7 +13,8 @@ use Rattle.model.specs.Totals.{free_size, live_size_lem}
 use Rattle.table.specs.Layout.{Slot, allocated_word, size_at, at}
 use Rattle.stores.specs.Stores.{OnlySlot, nothing, stored, row-head_set}
 use Rattle.words.specs.Words.{slot_of, row_of, encode, block_of}
-use Rattle.words.specs.Spots.{InSlot, in_table, in_row, in_words}
+use Rattle.words.specs.Spots.{InSlot}
+use Rattle.words.proofs.Spots.{in_table, in_row, in_words}
 use Rattle.chunks.specs.Premises.{FreeIn, LiveIn}
 use Rattle.chunks.specs.ReplacedWords.{replaced-written}
 use Rattle.chunks.specs.Steps.{made_live, relabelled, taken_whole, set_free}

@@ -14,8 +14,9 @@ use Rattle.model.specs.Sums.{allocated-cut}
 use Rattle.table.specs.Layout.{Slot, allocated_word, row}
 use Rattle.stores.specs.Stores.{OnlySlot, row-head_set}
 use Rattle.words.specs.Words.{slot_of, row_of, row_at, encode, block_of}
-use Rattle.words.specs.Rows.{written}
-use Rattle.words.specs.Spots.{slot_unused, InSlot, in_table}
+use Rattle.words.proofs.Rows.{written}
+use Rattle.words.specs.Spots.{InSlot}
+use Rattle.words.proofs.Spots.{slot_unused, in_table}
 use Rattle.chunks.specs.Sides.{row_at-cut, row-swapped, first-kept, left-apart, row-of-table, allocated-of-table, first-of-table, length-of-table}
 
 module _ {ws : List ℕ} {k : ℕ} {z : Spot} (h : InSlot ws k z) (d : Chunk) where

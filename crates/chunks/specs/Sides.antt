@@ -13,9 +13,10 @@ use Rattle.model.specs.Effects.{chunks_of}
 use Rattle.model.specs.Soundness.{DifferentSlots}
 use Rattle.table.specs.Layout.{word_count, slot_count, Slot, allocated_word, first_slot, next_at, previous_at, row}
 use Rattle.words.specs.Words.{slot_of, row_of, row_at, block_of, slots_of}
-use Rattle.words.specs.Linked.{row_at-here, row_at-there}
-use Rattle.words.specs.Rows.{encode-length, encode-head, encode-row}
-use Rattle.words.specs.Spots.{row_at-right, spot-left, InSlot, in_table, in_words}
+use Rattle.words.proofs.Linked.{row_at-here, row_at-there}
+use Rattle.words.proofs.Rows.{encode-length, encode-head, encode-row}
+use Rattle.words.specs.Spots.{InSlot}
+use Rattle.words.proofs.Spots.{row_at-right, spot-left, in_table, in_words}
 
 -- ---- the left side
 

@@ -1,4 +1,6 @@
 // The calls that change a dedicated block, by value: the record goes in, and comes back beside the answer.
+#![tactic(auto)]
+
 ghost use Rattle.std.specs.Prelude.{◌≡◌};
 ghost use Rattle.sub_allocator.specs.Requests.{request_of};
 ghost use Rattle.dedicated.specs.Dedicated.{request_fault, id_fault, allocate_in, free_in, rename_in, placed, changed};
@@ -8,6 +10,7 @@ use sub_allocator::answers::{Changed, Placement};
 use sub_allocator::request::Request;
 
 // What the request is refused for, 0 for nothing.
+#[tactic(auto, unfolding(dedicated::specs::Dedicated::request_fault))]
 fn request_fault(block: DedicatedBlock, request: Request) -> u64
     ensures { result ≡ request_fault block (request_of request) }
 {
@@ -28,6 +31,7 @@ fn request_fault(block: DedicatedBlock, request: Request) -> u64
     0
 }
 
+#[tactic(auto, unfolding(dedicated::specs::Dedicated::allocate_in))]
 pub fn allocate(block: DedicatedBlock, request: Request) -> Placing
     ensures { placed result ≡ allocate_in block (request_of request) }
 {
@@ -49,6 +53,7 @@ pub fn allocate(block: DedicatedBlock, request: Request) -> Placing
 }
 
 // What giving back and renaming by this id are refused for, 0 for nothing.
+#[tactic(auto, unfolding(dedicated::specs::Dedicated::id_fault))]
 fn id_fault(block: DedicatedBlock, id: u64) -> u64
     ensures { result ≡ id_fault block id }
 {
@@ -62,6 +67,7 @@ fn id_fault(block: DedicatedBlock, id: u64) -> u64
 }
 
 // Accepted when already empty too, and the label stays.
+#[tactic(auto, unfolding(dedicated::specs::Dedicated::free_in))]
 pub fn free(block: DedicatedBlock, id: u64) -> Changing
     ensures { changed result ≡ free_in block id }
 {
@@ -83,6 +89,7 @@ pub fn free(block: DedicatedBlock, id: u64) -> Changing
 }
 
 // Accepted empty or not.
+#[tactic(auto, unfolding(dedicated::specs::Dedicated::rename_in))]
 pub fn rename_allocation(block: DedicatedBlock, id: u64, label: u64) -> Changing
     ensures { changed result ≡ rename_in block id label }
 {

@@ -1,4 +1,6 @@
 // The walk: it keeps the lent table and its own place, and hands out one live chunk at a time.
+#![tactic(auto)]
+
 ghost use Rattle.std.specs.Prelude.{◌≡◌};
 ghost use Rattle.leaks.specs.Leaks.{reply_leak, step_on, stepped};
 ghost use Rattle.leak_walk.specs.Walks.{start_of, step_of, begun, begin_of};

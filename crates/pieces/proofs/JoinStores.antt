@@ -9,8 +9,9 @@ use Rattle.model.specs.Block.{Chunk}
 use Rattle.table.specs.Layout.{slot_count, Slot, size_at, next_at, at, row, empty_row}
 use Rattle.stores.specs.Stores.{set_row, OnlySlot, nothing, stored, row_written}
 use Rattle.words.specs.Words.{encode, block_of}
-use Rattle.words.specs.Spots.{in_table}
-use Rattle.pieces.specs.JoinedWords.{JoinedRows, taken-slot, after-within, after-other, after_kept, join_written}
+use Rattle.words.proofs.Spots.{in_table}
+use Rattle.pieces.specs.JoinedWords.{JoinedRows}
+use Rattle.pieces.proofs.JoinedWords.{taken-slot, after-within, after-other, after_kept, join_written}
 use Rattle.chunks.specs.Premises.{TwoFree}
 use Rattle.chunks.specs.Sides.{next-other}
 use Rattle.pieces.specs.Steps.{joined}

@@ -11,10 +11,11 @@ use Rattle.model.specs.Block.{Spot}
 use Rattle.table.specs.Layout.{slot_count, Slot, allocated_word, next_id, size_at, first_byte_at, previous_at, row}
 use Rattle.stores.specs.Stores.{set_row, OnlySlot, nothing, stored, row-head_set, row_written}
 use Rattle.words.specs.Words.{encode, block_of}
-use Rattle.words.specs.Spots.{in_table}
+use Rattle.words.proofs.Spots.{in_table}
 use Rattle.chunks.specs.Premises.{FreeIn, NoneIn}
 use Rattle.chunks.specs.Sides.{previous-within, previous-other}
-use Rattle.pieces.specs.SplitWords.{SplitRows, new-other, new-not-before, split_written}
+use Rattle.pieces.specs.SplitWords.{SplitRows}
+use Rattle.pieces.proofs.SplitWords.{new-other, new-not-before, split_written}
 use Rattle.pieces.specs.Steps.{split_in_two}
 use Rattle.pieces.specs.Stores.{next_of_set, shortened}
 use Rattle.pieces.proofs.LinkStores.{NextTold, next_told}

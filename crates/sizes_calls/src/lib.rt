@@ -1,8 +1,11 @@
 // Block sizes at the boundary: four numbers in, an array of four out, zeros on a refusal.
+#![tactic(auto)]
+
 ghost use Rattle.std.specs.Prelude.{◌≡◌};
 ghost use Rattle.sizes.specs.Sizes.{new_sizes, default_sizes, set_max_device, set_max_host, memblock_size, reply_size, reply_sizes};
 ghost use Rattle.outs.specs.Outs.{value_out};
-ghost use Rattle.sizes_calls.specs.SizesCalls.{sizes_of, words, sizes_out, is_host};
+ghost use Rattle.sizes_calls.specs.SizesCalls.{sizes_of, words, sizes_out};
+ghost use Rattle.sizes_calls.specs.SizesCalls;
 
 use sizes::{AllocationSizes, BlockSize, Changed};
 
@@ -110,7 +113,7 @@ pub extern "C" fn lunkaseyo_sizes_get_memblock_size(
     count: u64,
     size: &mut u64,
 ) -> u64
-    ensures { (result, size.new) ≡ value_out (memblock_size (sizes_of min_device max_device min_host max_host) (is_host is_host) count) }
+    ensures { (result, size.new) ≡ value_out (memblock_size (sizes_of min_device max_device min_host max_host) (SizesCalls.is_host is_host) count) }
 {
     let given = sizes_of(min_device, max_device, min_host, max_host);
     give_size(given.get_memblock_size(is_host != 0, count), size)

@@ -3,19 +3,15 @@
 -- the definitions
 pub mod Words
 pub mod Soundness
--- what is written is read back; words are read as a block exactly when they are sound
-pub mod Rules
-pub mod Written
-pub mod Checked
 -- what the functions of the check answer
 pub mod Checks
 pub mod Ids
--- on the way to these
-pub mod Rows
+-- what is said of words and of the chunks that they hold
+pub mod Written
 pub mod Laid
 pub mod Linked
-pub mod Keeping
-pub mod Walking
-pub mod EmptySlots
 pub mod Passed
 pub mod Spots
+-- on the way to the theorems of proofs/
+pub mod Walking
+pub mod EmptySlots

@@ -17,7 +17,8 @@ size-requires c = slot-in _ _ _ c.requires
 
 pub place_piece-requires : goal.place_piece-requires
 place_piece-requires c =
-    measured _ _ _ c.requires _ _ c.offset_in-offset.ensures c.first_byte.ensures _ c.size.ensures c.if-n-size.true
+    measured _ _ _ c.requires _ _ c.offset_in-offset.ensures c.first_byte.ensures _ c.size.ensures
+    (omega (arith, c.if-n-size.true))
 
 pub id-id-requires : goal.id-id-requires
 id-id-requires c = slot-in _ _ _ c.requires

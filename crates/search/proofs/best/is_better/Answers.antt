@@ -11,7 +11,7 @@ size-requires c = held_slot c.requires.2
 pub returns-then-spare-over : goal.returns-then-spare-over
 returns-then-spare-over c =
     out_of_range _ _ (request_of c.args.request) _ _ c.requires.3 _ c.size.ensures c.wrapping_sub_u64-over.ensures.value
-    c.size.type_inv c.wrapping_sub_u64-over.type_inv c.if-spare-over.true
+    c.size.type_inv c.wrapping_sub_u64-over.type_inv (omega (arith, c.if-spare-over.true))
 
 pub kind-requires : goal.kind-requires
 kind-requires c = held_slot c.requires.2
@@ -24,4 +24,4 @@ returns-then-kind-ne0 c =
 pub returns : goal.returns
 returns c =
     if-fits _ _ (request_of c.args.request) _ _ c.requires.3 _ c.size.ensures c.wrapping_sub_u64-over.ensures.value
-    c.if-spare-over.false _ c.kind.ensures (omega (arith, c.if-kind-ne0.false)) _ c.fits.ensures
+    (omega (arith, c.if-spare-over.false)) _ c.kind.ensures (omega (arith, c.if-kind-ne0.false)) _ c.fits.ensures

@@ -26,7 +26,7 @@ overflow_add-padding c =
 pub returns-then-size-padding : goal.returns-then-size-padding
 returns-then-size-padding c =
     too_long _ _ _ _ _ _ c.offset_in-offset.ensures
-    (rw (← c.first_byte-first.ensures, ← c.size.ensures) c.if-size-padding.true)
+    (omega (arith, c.first_byte-first.ensures, c.size.ensures, c.if-size-padding.true))
 
 pub clears_after-requires : goal.clears_after-requires
 clears_after-requires c =
@@ -38,4 +38,4 @@ clears_after-requires c =
 pub returns : goal.returns
 returns c =
     long-enough _ _ _ _ _ _ c.offset_in-offset.ensures
-    (rw (← c.first_byte-first.ensures, ← c.size.ensures) c.if-size-padding.false) _ c.clears_after.ensures
+    (omega (arith, c.first_byte-first.ensures, c.size.ensures, c.if-size-padding.false)) _ c.clears_after.ensures

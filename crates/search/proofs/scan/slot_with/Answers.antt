@@ -7,10 +7,10 @@ pub loop-k-init : goal.loop-k-init
 loop-k-init c = begin _ _ _ c.slot_count-slots.ensures
 
 pub returns-then-id : goal.returns-then-id
-returns-then-id c = met c.loop-k.invariant c.loop-k-test.true (sym c.id.ensures ∙ c.if-id.true)
+returns-then-id c = met c.loop-k.invariant (omega (arith, c.loop-k-test.true)) (sym c.id.ensures ∙ c.if-id.true)
 
 pub loop-k-preserved : goal.loop-k-preserved
-loop-k-preserved c = go_on c.loop-k.invariant c.loop-k-test.true (λ e. c.if-id.false (c.id.ensures ∙ e))
+loop-k-preserved c = go_on c.loop-k.invariant (omega (arith, c.loop-k-test.true)) (λ e. c.if-id.false (c.id.ensures ∙ e))
 
 pub returns : goal.returns
 returns c = ended c.loop-k.invariant (omega (arith, c.loop-k-test.false))

@@ -13,12 +13,15 @@ use Rattle.table.specs.Layout.{slot_count, is_table, Slot, block_size, next_id, 
 use Rattle.words.specs.Words.{chunks_of, block_of, slots_of, table, sound, decode}
 use Rattle.words.specs.Soundness.{Used, Follow, Sound}
 use Rattle.words.specs.Checks.{links_ok, up_to, kind_ok, step_ok, walk_ok, walked, empty_below, checked}
-use Rattle.words.specs.Linked.{Linked, row_at-none}
-use Rattle.words.specs.Rules.{when}
-use Rattle.words.specs.Written.{Known, known, decode-block, decode-table}
-use Rattle.words.specs.Keeping.{record-sound}
+use Rattle.words.specs.Linked.{Linked}
+use Rattle.words.proofs.Linked.{row_at-none}
+use Rattle.words.proofs.Rules.{when}
+use Rattle.words.specs.Written.{Known}
+use Rattle.words.proofs.Written.{known, decode-block, decode-table}
+use Rattle.words.proofs.Keeping.{record-sound}
 use Rattle.words.specs.EmptySlots.{is_empty, not_empty, found_empty, empty_found}
-use Rattle.words.specs.Passed.{Good, Passed, whole-passed}
+use Rattle.words.specs.Passed.{Good, Passed}
+use Rattle.words.proofs.Passed.{whole-passed}
 
 -- ---- the slots that a walk visits
 

@@ -1,4 +1,4 @@
--- What a line asks for that is read one byte at a time: the law of `ReadLaws` that rests on `FromBytes`. Assumes nothing.
+-- What a line that is read one byte at a time asks for: the law of `ReadLaws` that rests on `FromBytes`. Assumes nothing.
 use Rattle.std.specs.Prelude.{ℕ, List, [], ◌∷◌, ◌≡◌, refl}
 use Rattle.std.proofs.Common.{⊎_elim, sym, ap, ◌∙◌}
 use Rattle.laws.specs.Every.{every, cases}

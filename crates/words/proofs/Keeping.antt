@@ -11,10 +11,11 @@ use Rattle.model.specs.Soundness.{Sound as SoundBlock}
 use Rattle.table.specs.Layout.{slot_count, is_table, table_shape, block_size, next_id, first_slot, size_at, kind_at, next_at, row, empty_row}
 use Rattle.words.specs.Words.{row_of, row_at, chunk_at, chunks_of, block_of, slots_of, sound}
 use Rattle.words.specs.Soundness.{Used, Walk, Follow, live_bytes, Sound}
-use Rattle.words.specs.Rows.{written}
-use Rattle.words.specs.Linked.{Linked, linked_slot, linked_row_at, row_at-none, linked_read}
-use Rattle.words.specs.Laid.{sound-laid, chunks_fit}
-use Rattle.words.specs.Written.{sound-words}
+use Rattle.words.proofs.Rows.{written}
+use Rattle.words.specs.Linked.{Linked}
+use Rattle.words.proofs.Linked.{linked_slot, linked_row_at, row_at-none, linked_read}
+use Rattle.words.proofs.Laid.{sound-laid, chunks_fit}
+use Rattle.words.proofs.Written.{sound-words}
 
 -- the chunks in the slots of a walk
 abbrev chunks_at : List ℕ → List ℕ → List Chunk

@@ -1,2 +1,0 @@
--- The walk that the proofs of `leak_walk` share.
-pub mod Stepping
