@@ -1,4 +1,6 @@
 // A number's digits, written into a lent buffer.
+#![tactic(auto)]
+
 ghost use Rattle.std.specs.Prelude.{◌≡◌, ◌∷◌, [], ◌+◌, ◌<◌, ◌≤◌, length};
 ghost use Rattle.laws.specs.Decimal.{decimal};
 ghost use Rattle.laws.specs.Splice.{splice};

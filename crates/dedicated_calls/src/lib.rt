@@ -1,4 +1,6 @@
 // A dedicated block made and asked at the boundary: its record as three words, the values asked for out, 0 on a refusal.
+#![tactic(auto)]
+
 ghost use Rattle.std.specs.Prelude.{◌≡◌};
 ghost use Rattle.dedicated.specs.Dedicated.{new_block, allocated_in, is_empty_in, report_of};
 ghost use Rattle.outs.specs.Outs.{value_out, flag_out};

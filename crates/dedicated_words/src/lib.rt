@@ -1,4 +1,6 @@
 // A dedicated block's record as three words, read and written.
+#![tactic(auto)]
+
 ghost use Rattle.std.specs.Prelude.{◌≡◌};
 ghost use Rattle.dedicated_words.specs.RecordWords.{record_of, words_of};
 

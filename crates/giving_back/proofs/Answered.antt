@@ -14,7 +14,7 @@ use Rattle.model.specs.Placing.{with_chunks}
 use Rattle.table.specs.Layout.{is_table}
 use Rattle.words.specs.Spots.{InSlot}
 use Rattle.words.specs.Words.{encode, block_of, sound, decode}
-use Rattle.words.specs.Written.{known}
+use Rattle.words.proofs.Written.{known}
 use Rattle.search.specs.Live.{live_slot, live-none, live-some}
 use Rattle.chunks.specs.Premises.{LiveIn}
 use Rattle.chunks.specs.Steps.{relabelled}

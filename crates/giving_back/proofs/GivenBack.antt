@@ -17,10 +17,12 @@ use Rattle.model.specs.Placing.{with_chunks}
 use Rattle.model.specs.Sums.{total-cut, allocated-cut}
 use Rattle.model.specs.Totals.{replaced-total, live_size_lem}
 use Rattle.table.specs.Layout.{Slot, slot_count, allocated_word, size_at, kind_at, next_at, previous_at}
-use Rattle.words.specs.Laid.{Laid, block_back}
-use Rattle.words.specs.Spots.{InSlot, in_table, in_words, before-in, after-in, written-spot}
+use Rattle.words.specs.Laid.{Laid}
+use Rattle.words.proofs.Laid.{block_back}
+use Rattle.words.specs.Spots.{InSlot}
+use Rattle.words.proofs.Spots.{in_table, in_words, before-in, after-in, written-spot}
 use Rattle.words.specs.Words.{encode, block_of}
-use Rattle.pieces.specs.JoinedWords.{taken-place, free_laid, joined-laid}
+use Rattle.pieces.proofs.JoinedWords.{taken-place, free_laid, joined-laid}
 use Rattle.chunks.specs.Premises.{FreeIn, LiveIn, TwoFree}
 use Rattle.chunks.specs.Sides.{next-within, allocated-of-table}
 use Rattle.chunks.specs.Steps.{set_free}

@@ -9,7 +9,6 @@ pub mod Cuts
 pub mod Counting
 pub mod Powers
 pub mod Rounding
-pub mod Pages
 pub mod Nearest
 pub mod Decimal
 pub mod Letters

@@ -3,7 +3,7 @@ use Rattle.std.specs.Prelude.{ℕ, List, ◌↔◌, ◌≡◌, refl, get_or}
 use Rattle.std.proofs.Common.{arith, ⊎_elim, sym, ◌∙◌}
 use Rattle.std.proofs.Math.Option.{Option, none, some}
 use Rattle.laws.specs.Reply.{Reply, accepted, refused, not_refused}
-use Rattle.leaks.specs.Handed.{leak_id}
+use Rattle.leaks.proofs.Handed.{leak_id}
 use Rattle.leaks.specs.Leaks.{Live, step_on}
 use Rattle.leaks.specs.Refusals.{leak-refused, step-answers}
 use Rattle.leaks_calls.specs.LeaksCalls.{leak_out}

@@ -1,4 +1,6 @@
 // The leak walk at the boundary: its place as a number that the caller keeps, one live chunk's five words out.
+#![tactic(auto)]
+
 ghost use Rattle.std.specs.Prelude.{◌≡◌};
 ghost use Rattle.leaks.specs.Leaks.{step_on};
 ghost use Rattle.leaks_calls.specs.LeaksCalls.{start_out, leak_out};

@@ -1,12 +1,6 @@
--- What a call keeps of a block's head: its size, its slots and its next id. Assumes nothing.
-use Rattle.std.specs.Prelude.{ℕ, ◌^◌, ◌≤◌, ◌<◌, ◌≡◌, refl}
-use Rattle.std.proofs.Common.{le_refl, arith}
-use Rattle.laws.specs.Reply.{accepted}
+-- What a call keeps of a block's head: its size, its slots and its next id. Definitions. Assumes nothing.
+use Rattle.std.specs.Prelude.{◌^◌, ◌≤◌, ◌<◌, ◌≡◌}
 use Rattle.model.specs.Block.{Block}
-use Rattle.model.specs.Effects.{placed-cases, released, renamed}
-use Rattle.model.specs.GivingBack.{release, rename}
-use Rattle.model.specs.Placing.{Request, Placed, place}
-use Rattle.model.specs.Soundness.{Sound}
 
 -- what a request keeps of a block: its size and its slots; the next id never falls, and stays a 64-bit word
 pub record Heads (b after : Block) : Type 0 where
@@ -15,24 +9,8 @@ pub record Heads (b after : Block) : Type 0 where
   pub next : b.next ≤ after.next
   pub word : b.next < 2 ^ 64 → after.next < 2 ^ 64
 
--- An accepted request does.
-pub place-heads : (r : Request) (b : Block) → Sound b → (p : Placed) → place r b ≡ accepted p → Heads b p.block
-place-heads r b s p e =
-    placed-cases r b s p e (λ q. Heads b q.block)
-    (λ z i w. record { size = refl; slots = refl; next = le_refl _; word = λ h. h })
-    (λ z i l n t. record { size = refl; slots = refl; next = omega arith; word = λ h. omega arith })
-
 -- the block's size, its slots and its next id are as they were
 pub record SameHeads (b after : Block) : Type 0 where
   pub size : after.size ≡ b.size
   pub slots : after.slots ≡ b.slots
   pub next : after.next ≡ b.next
-
--- An accepted free keeps all three.
-pub release-heads : (id : ℕ) (b after : Block) → release id b ≡ accepted after → SameHeads b after
-release-heads id b after e = released id b (SameHeads b) after e (λ z l. record { size = refl; slots = refl; next = refl })
-
--- So does an accepted rename.
-pub rename-heads : (id label : ℕ) (b after : Block) → rename id label b ≡ accepted after → SameHeads b after
-rename-heads id label b after e =
-    renamed id b (SameHeads b) label after e (λ z l. record { size = refl; slots = refl; next = refl })

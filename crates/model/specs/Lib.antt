@@ -1,4 +1,4 @@
--- A free-list block: what it is, what its calls mean, and what is proved of them.
+-- A free-list block: what it is, what its calls mean, and the words of what proofs/ proves of them.
 
 -- the definitions
 pub mod Block
@@ -14,7 +14,6 @@ pub mod Refusals
 pub mod NoneLive
 pub mod Apart
 -- what calls keep, and how they change a block
-pub mod Kept
 pub mod Totals
 pub mod Merging
 pub mod Slots
@@ -30,7 +29,6 @@ pub mod Sums
 pub mod Fit
 pub mod Choose
 pub mod Put
-pub mod PageRule
 pub mod Effects
 pub mod Track
 pub mod Ranges

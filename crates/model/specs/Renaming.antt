@@ -1,10 +1,8 @@
--- What an accepted rename does: one chunk's label is new, and all else is as it was. Assumes nothing.
-use Rattle.std.specs.Prelude.{ℕ, ◌≡◌, refl}
+-- What an accepted rename does: one chunk's label is new, and all else is as it was. Definitions. Assumes nothing.
+use Rattle.std.specs.Prelude.{ℕ, ◌≡◌}
 use mathlib.Core.List.{◌∷◌, reverse_aux}
-use Rattle.laws.specs.Reply.{accepted}
 use Rattle.model.specs.Block.{Block, Spot}
-use Rattle.model.specs.Effects.{LiveIn, renamed}
-use Rattle.model.specs.GivingBack.{rename}
+use Rattle.model.specs.Effects.{LiveIn}
 
 -- the block after has the chunks of b, but for the label of the one that is live under the id
 pub record Relabelled (id label : ℕ) (b after : Block) : Type 0 where
@@ -23,9 +21,3 @@ pub record Relabelled (id label : ℕ) (b after : Block) : Type 0 where
           label = label;
         } ∷ spot.right);
       }
-
--- An accepted rename gives the chunk that is live under the id its new label, and changes nothing else.
-pub rename-relabels : (id label : ℕ) (b after : Block) → rename id label b ≡ accepted after → Relabelled id label b after
-rename-relabels id label b after e =
-    renamed id b (Relabelled id label b) label after e
-    (λ z l. record { spot = z; found = l; block = refl })

@@ -4,7 +4,7 @@ use Rattle.laws.specs.Reply.{Reply, accepted, refused}
 use Rattle.model.specs.Block.{Block, allocated}
 use Rattle.table.specs.Layout.{is_table, allocated_word}
 use Rattle.words.specs.Words.{Read, not_a_table, unsound, table, sound, decode}
-use Rattle.words.specs.Checked.{sound-exactly}
+use Rattle.words.proofs.Checked.{sound-exactly}
 use Rattle.opening.specs.Look.{on_table, table_fault}
 use Rattle.opening.specs.Questions.{allocated_on, is_empty_on}
 use Rattle.opening.proofs.Exactly.{allocated-head}

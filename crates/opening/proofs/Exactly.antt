@@ -11,8 +11,8 @@ use Rattle.table.specs.Layout.{is_table, slot_count, allocated_word}
 use Rattle.words.specs.Words.{encode, block_of, Read, not_a_table, unsound, table, decode}
 use Rattle.words.specs.Checks.{up_to}
 use Rattle.words.specs.Soundness.{Sound, live_bytes}
-use Rattle.words.specs.Written.{known}
-use Rattle.words.specs.Checked.{sound-exactly}
+use Rattle.words.proofs.Written.{known}
+use Rattle.words.proofs.Checked.{sound-exactly}
 use Rattle.opening.specs.Look.{on_table}
 use Rattle.opening.specs.Creation.{is_block_size, new_on}
 use Rattle.opening.specs.Questions.{allocated_on, is_empty_on}

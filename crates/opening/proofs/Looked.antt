@@ -7,8 +7,8 @@ use Rattle.model.specs.Block.{Block}
 use Rattle.table.specs.Layout.{is_table}
 use Rattle.words.specs.Words.{block_of, sound, decode}
 use Rattle.words.specs.Soundness.{Sound}
-use Rattle.words.specs.Written.{decode-none, decode-unsound, decode-block}
-use Rattle.words.specs.Checked.{sound-exactly}
+use Rattle.words.proofs.Written.{decode-none, decode-unsound, decode-block}
+use Rattle.words.proofs.Checked.{sound-exactly}
 use Rattle.opening.specs.Look.{on_table}
 use Rattle.opening.specs.Looked.{TableWords, table_exactly}
 

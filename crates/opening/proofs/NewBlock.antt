@@ -8,9 +8,9 @@ use Rattle.model.specs.Soundness.{Sound as SoundBlock}
 use Rattle.table.specs.Layout.{slot_count, table_shape}
 use Rattle.words.specs.Words.{encode, row_at, table, decode}
 use Rattle.words.specs.Soundness.{Sound}
-use Rattle.words.specs.Rows.{encode-length, encode-slots, encode-head, encode-row}
-use Rattle.words.specs.Written.{decode-encode}
-use Rattle.words.specs.Checked.{decode-exactly}
+use Rattle.words.proofs.Rows.{encode-length, encode-slots, encode-head, encode-row}
+use Rattle.words.proofs.Written.{decode-encode}
+use Rattle.words.proofs.Checked.{decode-exactly}
 use Rattle.opening.specs.Creation.{new_on}
 use Rattle.opening.specs.Questions.{allocated_on, is_empty_on}
 use Rattle.opening.specs.Looked.{table_exactly}

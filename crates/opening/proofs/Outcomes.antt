@@ -6,8 +6,8 @@ use Rattle.laws.specs.Reply.{Reply, accepted, refused, number, not_refused}
 use Rattle.model.specs.Block.{Block}
 use Rattle.words.specs.Words.{encode, block_of, Read, not_a_table, unsound, table, decode}
 use Rattle.words.specs.Soundness.{Sound}
-use Rattle.words.specs.Written.{decode-table}
-use Rattle.words.specs.Checked.{sound-exactly}
+use Rattle.words.proofs.Written.{decode-table}
+use Rattle.words.proofs.Checked.{sound-exactly}
 use Rattle.opening.specs.Look.{on_table}
 use Rattle.opening.specs.Calls.{leaves}
 use Rattle.opening.specs.Looked.{TableWords, table_exactly}

@@ -6,7 +6,7 @@ use Rattle.laws.specs.Tests.{cond_cases}
 use Rattle.model.specs.Block.{Block}
 use Rattle.table.specs.Layout.{is_table}
 use Rattle.words.specs.Words.{block_of, sound, decode}
-use Rattle.words.specs.Written.{decode-none, decode-unsound, decode-block}
+use Rattle.words.proofs.Written.{decode-none, decode-unsound, decode-block}
 use Rattle.opening.specs.Look.{on_table, table_fault}
 
 module _ (ws : List ℕ) where

@@ -3,7 +3,7 @@ use Rattle.std.specs.Prelude.{ℕ, ◌≤◌, true, List, ◌↔◌, ◌≡◌, 
 use Rattle.std.proofs.Common.{⊎_elim}
 use Rattle.laws.specs.Every.{cases}
 use Rattle.table.specs.Layout.{word_count, slot_count, most_slots, is_table, table_shape}
-use Rattle.words.specs.Written.{decode-none, not_a_table_lem}
+use Rattle.words.proofs.Written.{decode-none, not_a_table_lem}
 
 -- the word count is 4 + 7s, s from 1 to 512
 abbrev pub TableWords : List ℕ → Type 0

@@ -1,5 +1,4 @@
--- What the contracts of `pages` cite, and the proof of the page test against Vulkan's rule.
+-- What the contracts of `pages` cite, and Vulkan's rule in its own words; proofs/ holds the page test against it.
 pub mod Pages
 pub mod Mask
 pub mod Vulkan
-pub mod PagesExamples

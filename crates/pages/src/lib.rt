@@ -1,5 +1,6 @@
 // Aligning and page tests of a block, by masks as in the Rust: nothing divides.
 #![tactic(auto)]
+
 ghost use Rattle.std.specs.Prelude.{◌≡◌, true, ◌+◌, ◌-◌, ◌^◌, ◌<◌};
 ghost use Rattle.laws.specs.Rounding.{align_down, align_up};
 ghost use Rattle.pages.specs.Pages.{is_power_of_two, is_on_same_page, has_granularity_conflict};

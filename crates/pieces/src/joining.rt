@@ -11,7 +11,6 @@ use stores;
 use table::layout;
 
 // The free chunk in slot k takes in the chunk after it, whose slot is empty then.
-#[tactic(auto, using(crate::proofs::JoinStores::join_words))]
 pub fn join(w: &mut [u64], k: u64)
     requires { Slot w.old k × Slot w.old (next_at w.old k) × (next_at w.old (next_at w.old k) ≤ slot_count w.old) × (size_at w.old k + size_at w.old (next_at w.old k) < 2 ^ 64) }
     ensures { (left : List Chunk) (c d : Chunk) (right : List Chunk) → TwoFree w.old k left c d right → w.new ≡ encode (joined left c d right (block_of w.old)) }

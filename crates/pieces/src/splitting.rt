@@ -23,7 +23,6 @@ fn shorten(w: &mut [u64], k: u64, first: u64, size: u64, new: u64)
 }
 
 // The first n bytes of the free chunk in slot k become a live chunk in slot new, under the next id.
-#[tactic(auto, using(crate::proofs::SplitStores::split_words))]
 pub fn split_off(w: &mut [u64], k: u64, new: u64, n: u64, kind: u64, label: u64)
     requires { Slot w.old k × Slot w.old new × (previous_at w.old k ≤ slot_count w.old) × (n ≤ size_at w.old k) × (first_byte_at w.old k + n < 2 ^ 64) × (allocated_word w.old + n < 2 ^ 64) × (next_id w.old + 1 < 2 ^ 64) }
     ensures { (z : Spot) → FreeIn w.old k z → NoneIn w.old new → kind ≢ 0 → w.new ≡ encode (split_in_two new n kind label z (block_of w.old)) }

@@ -16,9 +16,10 @@ use Rattle.model.specs.Soundness.{Sound}
 use Rattle.model.specs.Sums.{total-cut, allocated-cut, allocated-most}
 use Rattle.model.specs.Totals.{free_size}
 use Rattle.table.specs.Layout.{Slot, is_table, slot_count, allocated_word, next_id, id_at, size_at, first_byte_at, previous_at}
-use Rattle.words.specs.Spots.{InSlot, in_table, in_words}
+use Rattle.words.specs.Spots.{InSlot}
+use Rattle.words.proofs.Spots.{in_table, in_words}
 use Rattle.words.specs.Words.{encode, block_of, sound}
-use Rattle.words.specs.Written.{known}
+use Rattle.words.proofs.Written.{known}
 use Rattle.chunks.specs.Premises.{NoneIn}
 use Rattle.chunks.specs.Sides.{previous-within}
 use Rattle.chunks.specs.Steps.{taken_whole}

@@ -1,5 +1,6 @@
 // Whether the page functions answer as a recorded line says. A line with a range of no bytes, or outside their domain, agrees with
 // nothing.
+#![tactic(auto)]
 
 fn align_down_agrees(val: u64, alignment: u64, answer: u64) -> bool {
     if !pages::is_power_of_two(alignment) {
@@ -8,6 +9,7 @@ fn align_down_agrees(val: u64, alignment: u64, answer: u64) -> bool {
     pages::align_down(val, alignment) == answer
 }
 
+#[tactic(auto, using(pages::specs::Pages::power_pos))]
 fn align_up_agrees(val: u64, alignment: u64, answer: u64) -> bool {
     if !pages::is_power_of_two(alignment) {
         return false;

@@ -8,9 +8,9 @@ use Rattle.model.specs.GivingBack.{is_live, find_live}
 use Rattle.table.specs.Layout.{is_table, slot_count, Slot, id_at, kind_at}
 use Rattle.words.specs.Words.{block_of, sound}
 use Rattle.words.specs.Soundness.{Used}
-use Rattle.words.specs.Checked.{sound-exactly}
-use Rattle.words.specs.Spots.{sound-spot, in_table, in_words, in_all}
-use Rattle.words.specs.Written.{known}
+use Rattle.words.proofs.Checked.{sound-exactly}
+use Rattle.words.proofs.Spots.{sound-spot, in_table, in_words, in_all}
+use Rattle.words.proofs.Written.{known}
 use Rattle.search.specs.Found.{slot_of_spot}
 use Rattle.search.specs.Held.{held_kind}
 use Rattle.search.specs.Live.{live_slot, live_chunk}

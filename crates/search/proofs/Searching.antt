@@ -9,7 +9,8 @@ use Rattle.model.specs.Block.{Chunk, Spot, first, is_free, spots, largest_block}
 use Rattle.model.specs.Placing.{Request, taken_at, fits_at, holds, smaller, best as bestOf, chosen, chunk_before, chunk_after}
 use Rattle.table.specs.Layout.{first_slot, size_at, first_byte_at, kind_at, next_at}
 use Rattle.words.specs.Words.{block_of, sound}
-use Rattle.words.specs.Spots.{InSlot, in_words}
+use Rattle.words.specs.Spots.{InSlot}
+use Rattle.words.proofs.Spots.{in_words}
 use Rattle.search.specs.Along.{Along, along-first, along-here, along-next, along-held, along-end}
 use Rattle.search.specs.Best.{best_slot, better_at}
 use Rattle.search.specs.Fit.{before_at, after_at, before-chunk, after-chunk}

@@ -7,9 +7,10 @@ use Rattle.laws.specs.Tests.{cond_cases}
 use Rattle.model.specs.Block.{Chunk}
 use Rattle.table.specs.Layout.{first_slot, first_byte_at, next_at}
 use Rattle.words.specs.Words.{slot_of, chunks_of, block_of, sound}
-use Rattle.words.specs.Linked.{linked_slot}
-use Rattle.words.specs.Spots.{InSlot, sound-spot, in_table, in_words}
-use Rattle.words.specs.Written.{known}
+use Rattle.words.proofs.Linked.{linked_slot}
+use Rattle.words.specs.Spots.{InSlot}
+use Rattle.words.proofs.Spots.{sound-spot, in_table, in_words}
+use Rattle.words.proofs.Written.{known}
 use Rattle.search.specs.Fit.{next_first}
 use Rattle.search.specs.Held.{HeldIn, in_bytes}
 

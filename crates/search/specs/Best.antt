@@ -9,8 +9,9 @@ use Rattle.model.specs.Choose.{Best, best-spot, cut-of_spot}
 use Rattle.model.specs.Placing.{Request, fits_at, chunk_before, chunk_after, holds, chosen}
 use Rattle.table.specs.Layout.{size_at, first_byte_at, kind_at}
 use Rattle.words.specs.Words.{block_of, sound}
-use Rattle.words.specs.Spots.{InSlot, in_all}
-use Rattle.words.specs.Written.{known}
+use Rattle.words.specs.Spots.{InSlot}
+use Rattle.words.proofs.Spots.{in_all}
+use Rattle.words.proofs.Written.{known}
 use Rattle.search.specs.Fit.{before_at, after_at}
 use Rattle.search.specs.Found.{slot_of_spot, Inside, found_none, found_some}
 

@@ -9,8 +9,8 @@ use Rattle.model.specs.Placing.{uses_slot, empty_slot, new_slot}
 use Rattle.model.specs.Slots.{new_slot_lem}
 use Rattle.table.specs.Layout.{slot_count, id_at}
 use Rattle.words.specs.Words.{row_at, chunks_of, block_of, slots_of, sound}
-use Rattle.words.specs.Spots.{slot_unused}
-use Rattle.words.specs.Written.{known}
+use Rattle.words.proofs.Spots.{slot_unused}
+use Rattle.words.proofs.Written.{known}
 use Rattle.search.specs.Scan.{slot_from, slot_with}
 
 -- ---- for whoever takes the slot

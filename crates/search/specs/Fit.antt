@@ -8,7 +8,8 @@ use Rattle.model.specs.Placing.{Request, last_of, next_of, chunk_before, chunk_a
 use Rattle.model.specs.Put.{next_begins}
 use Rattle.table.specs.Layout.{size_at, first_byte_at, kind_at, next_at, previous_at}
 use Rattle.words.specs.Words.{slot_of}
-use Rattle.words.specs.Spots.{InSlot, in_table, in_words, beside}
+use Rattle.words.specs.Spots.{InSlot}
+use Rattle.words.proofs.Spots.{in_table, in_words, beside}
 use Rattle.search.specs.Held.{HeldIn}
 
 -- the chunk in a slot

@@ -6,7 +6,8 @@ use Rattle.model.specs.Block.{Spot, spots}
 use Rattle.model.specs.Choose.{Cut, Found, found, cut-of_spot}
 use Rattle.model.specs.GivingBack.{find}
 use Rattle.words.specs.Words.{block_of, sound}
-use Rattle.words.specs.Spots.{InSlot, sound-spot, in_table}
+use Rattle.words.specs.Spots.{InSlot}
+use Rattle.words.proofs.Spots.{sound-spot, in_table}
 
 abbrev pub slot_of_spot : Option Spot → ℕ
 slot_of_spot none = 0

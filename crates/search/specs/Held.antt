@@ -5,8 +5,9 @@ use Rattle.model.specs.Block.{Spot, total, largest_block}
 use Rattle.model.specs.Sums.{total-cut}
 use Rattle.table.specs.Layout.{Slot, size_at, first_byte_at, kind_at}
 use Rattle.words.specs.Words.{block_of, sound}
-use Rattle.words.specs.Spots.{InSlot, in_table, in_words, in_all, used-spot}
-use Rattle.words.specs.Written.{known}
+use Rattle.words.specs.Spots.{InSlot}
+use Rattle.words.proofs.Spots.{in_table, in_words, in_all, used-spot}
+use Rattle.words.proofs.Written.{known}
 
 -- slot k holds a chunk
 abbrev pub HeldIn : List ℕ → ℕ → Type 0

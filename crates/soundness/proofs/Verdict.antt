@@ -10,7 +10,7 @@ use Rattle.words.specs.Words.{sound}
 use Rattle.words.specs.Ids.{AllZero}
 use Rattle.words.specs.Checks.{chunks_walked, empty_below, checked, head_ok}
 use Rattle.words.specs.Walking.{some_walked, none_walked}
-use Rattle.words.specs.Checked.{checked-sound}
+use Rattle.words.proofs.Checked.{checked-sound}
 
 -- Buckets in which nothing was entered.
 pub zeros : AllZero (replicate 1024 0)

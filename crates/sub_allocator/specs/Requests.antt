@@ -8,7 +8,8 @@ use mir.Val.{Val}
 use Rattle.laws.specs.Powers.{Pow2, ones_of_pow2}
 use Rattle.pages.specs.Pages.{is_power_of_two}
 use Rattle.model.specs.Placing.{Request, fault}
-use Rattle.model.specs.Requests.{Words, no_fault}
+use Rattle.model.specs.Requests.{Words}
+use Rattle.model.proofs.Requests.{no_fault}
 use Rattle.sub_allocator.specs.declared.request.Request as declared
 
 abbrev pub request_of : declared.Request → Request

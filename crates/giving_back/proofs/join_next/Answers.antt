@@ -1,6 +1,6 @@
 -- `giving_back::join_next` meets its contract. Assumes nothing.
 use Rattle.std.proofs.Common.{sym, ◌∙◌}
-use Rattle.words.specs.Spots.{in_table}
+use Rattle.words.proofs.Spots.{in_table}
 use Rattle.giving_back.proofs.GivenBack.{no-next, next-held, next-live, next-joins, next-joined}
 use Rattle.giving_back.proofs.join_next.Goals as goal
 

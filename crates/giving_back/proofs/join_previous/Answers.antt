@@ -1,6 +1,6 @@
 -- `giving_back::join_previous` meets its contract. Assumes nothing.
 use Rattle.std.proofs.Common.{sym, ◌∙◌}
-use Rattle.words.specs.Spots.{in_table}
+use Rattle.words.proofs.Spots.{in_table}
 use Rattle.giving_back.proofs.GivenBack.{no-previous, previous-held, previous-live, previous-joins, previous-joined}
 use Rattle.giving_back.proofs.join_previous.Goals as goal
 

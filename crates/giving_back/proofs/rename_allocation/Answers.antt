@@ -1,6 +1,6 @@
 -- `giving_back::rename_allocation` meets its contract. Assumes nothing.
 use Rattle.std.proofs.Common.{sym, ap, ◌∙◌}
-use Rattle.words.specs.Spots.{in_table}
+use Rattle.words.proofs.Spots.{in_table}
 use Rattle.giving_back.specs.GivingBack.{reply_found}
 use Rattle.giving_back.proofs.Answered.{found-live, rename-refused, rename-done}
 use Rattle.giving_back.proofs.rename_allocation.Goals as goal

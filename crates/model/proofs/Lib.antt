@@ -1,0 +1,19 @@
+-- What is proved of the definitions of specs/.
+pub mod Apart
+pub mod Choose
+pub mod Effects
+pub mod Fit
+pub mod Heads
+pub mod Holding
+pub mod Kept
+pub mod Merging
+pub mod NoneLive
+pub mod PageRule
+pub mod Put
+pub mod Refusals
+pub mod Renaming
+pub mod Requests
+pub mod Room
+pub mod Slots
+pub mod Totals
+pub mod Track

@@ -1,0 +1,3 @@
+-- What is proved of the definitions of specs/.
+pub mod PagesExamples
+pub mod Vulkan

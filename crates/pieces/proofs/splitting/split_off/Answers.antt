@@ -1,0 +1,6 @@
+-- `pieces::splitting::split_off` meets its contract. Assumes nothing.
+use Rattle.pieces.proofs.SplitStores.{split_words}
+use Rattle.pieces.proofs.splitting.split_off.Goals as goal
+
+pub returns : goal.returns
+returns c = λ z h u live. cc (split_words c.args.w.now c.args.k c.args.new c.args.n c.args.kind c.args.label z h u live c.requires.1 c.requires.3)
