@@ -1,4 +1,6 @@
 // The calls that change a dedicated block, at the boundary: its record as three words, offset and id out, 0 on a refusal.
+#![tactic(auto)]
+
 ghost use Rattle.std.specs.Prelude.{◌≡◌};
 ghost use Rattle.dedicated.specs.Dedicated.{allocate_in, free_in, rename_in, changed};
 ghost use Rattle.outs.specs.Outs.{request};

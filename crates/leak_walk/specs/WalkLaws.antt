@@ -5,7 +5,7 @@ use Rattle.std.proofs.Common.{sym, ap}
 use Rattle.std.specs.Borrow.{Bor}
 use Rattle.laws.specs.Reply.{Reply, refused}
 use Rattle.words.specs.Soundness.{Sound}
-use Rattle.words.specs.Checked.{sound-exactly}
+use Rattle.words.proofs.Checked.{sound-exactly}
 use Rattle.opening.specs.Fault.{no_fault, is-fit, unfit}
 use Rattle.opening.specs.Look.{table_fault}
 use Rattle.opening.specs.Looked.{TableWords, table_exactly}

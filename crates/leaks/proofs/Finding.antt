@@ -9,7 +9,8 @@ use Rattle.model.specs.Block.{Chunk, Spot, spots}
 use Rattle.model.specs.GivingBack.{find}
 use Rattle.table.specs.Layout.{first_slot, next_at}
 use Rattle.words.specs.Words.{block_of, sound}
-use Rattle.words.specs.Spots.{InSlot, in_words}
+use Rattle.words.specs.Spots.{InSlot}
+use Rattle.words.proofs.Spots.{in_words}
 use Rattle.search.specs.Along.{Along, along-first, along-here, along-next, along-held, along-end}
 use Rattle.search.specs.Found.{slot_of_spot}
 use Rattle.search.specs.Held.{HeldIn}

@@ -12,8 +12,9 @@ use Rattle.model.specs.GivingBack.{find}
 use Rattle.table.specs.Layout.{size_at, first_byte_at}
 use Rattle.words.specs.Words.{block_of}
 use Rattle.words.specs.Soundness.{Sound}
-use Rattle.words.specs.Checked.{sound-exactly}
-use Rattle.opening.specs.Looked.{TableWords, table_exactly, looked, sound-answered}
+use Rattle.words.proofs.Checked.{sound-exactly}
+use Rattle.opening.specs.Looked.{TableWords, table_exactly}
+use Rattle.opening.proofs.Looked.{looked, sound-answered}
 use Rattle.search.specs.Held.{held_kind, in_bytes}
 use Rattle.leaks.specs.Leaks.{Live, live_of, handed_out, is_from, live_from, leak_on}
 use Rattle.leaks.specs.Lives.{lives_of, lives, from, live_at, LiveSlot, Before, lives-slots, slots-lives, lives-rise, lives-sizes, lives-ids}

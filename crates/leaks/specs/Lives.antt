@@ -13,9 +13,10 @@ use Rattle.model.specs.Choose.{cut-of_spot, spot-of_cut}
 use Rattle.table.specs.Layout.{Slot, allocated_word, id_at, size_at, first_byte_at, kind_at, label_at}
 use Rattle.words.specs.Words.{block_of, sound}
 use Rattle.words.specs.Soundness.{Sound}
-use Rattle.words.specs.Written.{known}
-use Rattle.words.specs.Checked.{sound-exactly}
-use Rattle.words.specs.Spots.{InSlot, sound-spot, in_table, in_words, in_all}
+use Rattle.words.proofs.Written.{known}
+use Rattle.words.proofs.Checked.{sound-exactly}
+use Rattle.words.specs.Spots.{InSlot}
+use Rattle.words.proofs.Spots.{sound-spot, in_table, in_words, in_all}
 use Rattle.opening.specs.Looked.{TableWords, table_exactly}
 use Rattle.search.specs.Held.{held_kind}
 use Rattle.leaks.specs.Leaks.{Live, live_of}

@@ -7,7 +7,7 @@ use Rattle.std.proofs.Math.Path.{refl, ap}
 use Rattle.laws.specs.Reply.{Reply, accepted, refused}
 use Rattle.words.specs.Soundness.{Sound}
 use Rattle.opening.specs.Looked.{TableWords}
-use Rattle.opening.specs.Exactly.{asked-refused-1, asked-refused-2, asked-refused}
+use Rattle.opening.proofs.Exactly.{asked-refused-1, asked-refused-2, asked-refused}
 use Rattle.leaks.specs.Leaks.{Live, handed_out, live_from, leak_on, place_after, step_on}
 use Rattle.leaks.specs.Walked.{walk_on}
 
