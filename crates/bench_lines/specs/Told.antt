@@ -4,7 +4,8 @@ use Rattle.std.proofs.Common.{append_assoc, append-nil, sym, ap, ◌∙◌}
 use Rattle.laws.specs.Tests.{cond_cases}
 use Rattle.call_lines.specs.Format.{cut, ended, lines, read_line, with_first}
 use Rattle.call_lines.specs.Reading.{fresh, fed, fed_all, asked, is_begun}
-use Rattle.call_lines.specs.ReadLaws.{line_read, none_begun, some_begun, fed-parts}
+use Rattle.call_lines.specs.ReadLaws.{none_begun, some_begun, fed-parts}
+use Rattle.call_lines.proofs.ReadLaws.{line_read}
 use Rattle.call_lines.specs.declared.line.Line.{Line}
 use Rattle.answer_lines.specs.Printed.{printed}
 use Rattle.bench_step.specs.Kept.{AtHand, answered-sound}

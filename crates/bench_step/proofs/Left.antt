@@ -10,13 +10,14 @@ use Rattle.laws.specs.Reply.{Reply, accepted, refused, number}
 use Rattle.model.specs.Block.{allocated}
 use Rattle.model.specs.Placing.{Request}
 use Rattle.table.specs.Layout.{is_table, allocated_word}
-use Rattle.words.specs.Checked.{sound-exactly}
+use Rattle.words.proofs.Checked.{sound-exactly}
 use Rattle.words.specs.Soundness.{Sound}
 use Rattle.words.specs.Words.{sound}
-use Rattle.opening.specs.Exactly.{allocated-head}
+use Rattle.opening.proofs.Exactly.{allocated-head}
 use Rattle.opening.specs.Fault.{no_table, not_sound, no_fault, is-fit, unfit}
 use Rattle.opening.specs.Look.{table_fault}
-use Rattle.opening.specs.Looked.{TableWords, table_exactly, looked}
+use Rattle.opening.specs.Looked.{TableWords, table_exactly}
+use Rattle.opening.proofs.Looked.{looked}
 use Rattle.opening.specs.Questions.{allocated_on}
 use Rattle.giving_back.specs.GivingBack.{free_on}
 use Rattle.block.specs.KeptOnWords.{allocate-sound, free-sound}

@@ -16,8 +16,8 @@ use Rattle.model.specs.Runs.{Call}
 use Rattle.table.specs.Layout.{word_count, most_slots, most_words}
 use Rattle.words.specs.Checks.{up_to}
 use Rattle.opening.specs.Creation.{new_on}
-use Rattle.opening.specs.Exactly.{new-cases}
-use Rattle.opening.specs.NewBlock.{new-table, new_blind}
+use Rattle.opening.proofs.Exactly.{new-cases}
+use Rattle.opening.proofs.NewBlock.{new-table, new_blind}
 use Rattle.bench_step.specs.Kept.{slots_most, after-length}
 use Rattle.bench_step.specs.Step.{Outcome, opened, stored, line_after, new_answered, call_answered}
 

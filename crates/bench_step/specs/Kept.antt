@@ -12,9 +12,9 @@ use Rattle.table.specs.Layout.{word_count, most_slots, most_words}
 use Rattle.words.specs.Checks.{up_to}
 use Rattle.words.specs.Soundness.{Sound}
 use Rattle.opening.specs.Creation.{new_on}
-use Rattle.opening.specs.Exactly.{new-accepted}
+use Rattle.opening.proofs.Exactly.{new-accepted}
 use Rattle.opening.specs.Looked.{TableWords}
-use Rattle.opening.specs.NewBlock.{new-table, new-sound}
+use Rattle.opening.proofs.NewBlock.{new-table, new-sound}
 use Rattle.block.specs.KeptOnWords.{allocate-length, allocate-sound, free-length, free-sound, rename-length, rename-sound}
 use Rattle.call_lines.specs.Format.{Asked}
 use Rattle.call_lines.specs.Format.Asked.{new, call}

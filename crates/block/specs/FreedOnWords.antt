@@ -7,18 +7,20 @@ use Rattle.laws.specs.Cuts.{cut_all}
 use Rattle.laws.specs.Lists.{All, all_map}
 use Rattle.laws.specs.Reply.{accepted}
 use Rattle.model.specs.Block.{Chunk, Block, Spot, total, first}
-use Rattle.model.specs.Effects.{chunks_of, released}
+use Rattle.model.specs.Effects.{chunks_of}
+use Rattle.model.proofs.Effects.{released}
 use Rattle.model.specs.GivingBack.{freed, release}
-use Rattle.model.specs.Kept.{release-keeps}
-use Rattle.model.specs.Merging.{NearestLive, free_as, freed-alone, freed-next, freed-previous, freed-both}
+use Rattle.model.proofs.Kept.{release-keeps}
+use Rattle.model.specs.Merging.{NearestLive, free_as}
+use Rattle.model.proofs.Merging.{freed-alone, freed-next, freed-previous, freed-both}
 use Rattle.model.specs.Placing.{with_chunks}
 use Rattle.model.specs.Soundness.{Sound as SoundBlock}
 use Rattle.table.specs.Layout.{Slot, slot_count, next_id, id_at, size_at, first_byte_at, kind_at, next_at, previous_at}
 use Rattle.words.specs.Words.{encode, block_of, slots_of}
 use Rattle.words.specs.Soundness.{Used, Sound}
-use Rattle.words.specs.Rows.{encode-slots, encode-head}
+use Rattle.words.proofs.Rows.{encode-slots, encode-head}
 use Rattle.opening.specs.Looked.{TableWords}
-use Rattle.opening.specs.Outcomes.{outcome-accepted}
+use Rattle.opening.proofs.Outcomes.{outcome-accepted}
 use Rattle.giving_back.specs.GivingBack.{free_on}
 use Rattle.block.specs.Entries.{Entry, Tells, Empty, Same}
 use Rattle.block.specs.Refused.{LiveSlot}

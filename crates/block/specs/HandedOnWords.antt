@@ -9,19 +9,20 @@ use Rattle.laws.specs.Lists.{all_at}
 use Rattle.laws.specs.Reply.{accepted, not_refused}
 use Rattle.laws.specs.Tests.{either}
 use Rattle.model.specs.Block.{Spot, total, first}
-use Rattle.model.specs.Kept.{place-keeps}
+use Rattle.model.proofs.Kept.{place-keeps}
 use Rattle.model.specs.Placing.{Request, Placed, offset_in, taken_at, taken, new_slot, take_whole, split_off, whole_of, piece_of, remainder_of, place_in, place}
-use Rattle.model.specs.Put.{piece_in, whole_in, answers}
+use Rattle.model.specs.Put.{piece_in, whole_in}
+use Rattle.model.proofs.Put.{answers}
 use Rattle.model.specs.Requests.{WellFormed}
-use Rattle.model.specs.Room.{place_found}
-use Rattle.model.specs.Slots.{new_slot_lem}
+use Rattle.model.proofs.Room.{place_found}
+use Rattle.model.proofs.Slots.{new_slot_lem}
 use Rattle.model.specs.Soundness.{Sound as SoundBlock}
 use Rattle.table.specs.Layout.{next_id, id_at, size_at, first_byte_at}
 use Rattle.words.specs.Words.{encode, block_of}
 use Rattle.words.specs.Soundness.{Used, Sound}
-use Rattle.words.specs.Rows.{encode-slots, encode-head}
+use Rattle.words.proofs.Rows.{encode-slots, encode-head}
 use Rattle.opening.specs.Looked.{TableWords}
-use Rattle.opening.specs.Outcomes.{outcome-accepted}
+use Rattle.opening.proofs.Outcomes.{outcome-accepted}
 use Rattle.sub_allocator.specs.Answers.{Given}
 use Rattle.placing.specs.Placing.{given, allocate_on}
 use Rattle.block.specs.Entries.{Entry, Tells, LowestEmpty, Same}

@@ -4,29 +4,32 @@ use Rattle.std.proofs.Common.{arith, ◌∙◌}
 use Rattle.std.proofs.Math.Path.{sym, ap}
 use Rattle.laws.specs.Reply.{Reply, accepted, refused}
 use Rattle.model.specs.Block.{Block, allocated}
-use Rattle.model.specs.Effects.{live_kind}
+use Rattle.model.proofs.Effects.{live_kind}
 use Rattle.model.specs.GivingBack.{release, rename}
-use Rattle.model.specs.Heads.{SameHeads, place-heads, release-heads, rename-heads}
-use Rattle.model.specs.Kept.{place-keeps, release-keeps, rename-keeps}
+use Rattle.model.specs.Heads.{SameHeads}
+use Rattle.model.proofs.Heads.{place-heads, release-heads, rename-heads}
+use Rattle.model.proofs.Kept.{place-keeps, release-keeps, rename-keeps}
 use Rattle.model.specs.Placing.{Request, Placed, taken_at, place}
 use Rattle.model.specs.Requests.{WellFormed}
-use Rattle.model.specs.Room.{Taken, put-best}
+use Rattle.model.specs.Room.{Taken}
+use Rattle.model.proofs.Room.{put-best}
 use Rattle.model.specs.Soundness.{Sound as SoundBlock}
-use Rattle.model.specs.Totals.{place-rises, release-allocated, rename-allocated}
+use Rattle.model.proofs.Totals.{place-rises, release-allocated, rename-allocated}
 use Rattle.table.specs.Layout.{word_count, table_shape, block_size, next_id, size_at, first_byte_at}
 use Rattle.words.specs.Words.{encode, block_of, decode}
 use Rattle.words.specs.Soundness.{Sound}
-use Rattle.words.specs.Rows.{encode-length, encode-head}
-use Rattle.words.specs.Written.{decode-encode}
-use Rattle.words.specs.Checked.{decode-exactly}
+use Rattle.words.proofs.Rows.{encode-length, encode-head}
+use Rattle.words.proofs.Written.{decode-encode}
+use Rattle.words.proofs.Checked.{decode-exactly}
 use Rattle.opening.specs.Look.{on_table}
 use Rattle.opening.specs.Calls.{leaves}
 use Rattle.sub_allocator.specs.Answers.{Given}
 use Rattle.placing.specs.Placing.{given, allocate_on}
 use Rattle.giving_back.specs.GivingBack.{changes, free_on, rename_on}
 use Rattle.opening.specs.Questions.{allocated_on}
-use Rattle.opening.specs.Looked.{TableWords, table_exactly, sound-answered}
-use Rattle.opening.specs.Outcomes.{call-accepted, outcome-accepted}
+use Rattle.opening.specs.Looked.{TableWords, table_exactly}
+use Rattle.opening.proofs.Looked.{sound-answered}
+use Rattle.opening.proofs.Outcomes.{call-accepted, outcome-accepted}
 use Rattle.block.specs.Refused.{LiveSlot, free-accepted}
 use Rattle.block.specs.RoomOnWords.{BestAt, best-words}
 use Rattle.block.specs.SlotsOnWords.{table-known, spot-stands}

@@ -6,7 +6,8 @@ use Rattle.laws.specs.Every.{cases, clash}
 use Rattle.laws.specs.Lists.{All, all_at}
 use Rattle.laws.specs.Members.{same, same-eq, same_refl, eq_or_not}
 use Rattle.model.specs.Block.{Chunk, Spot, total, first}
-use Rattle.model.specs.Choose.{Cut, same_spot}
+use Rattle.model.specs.Choose.{Cut}
+use Rattle.model.proofs.Choose.{same_spot}
 use Rattle.model.specs.Placing.{Request}
 use Rattle.table.specs.Layout.{Slot, slot_count, block_size, next_id, row, empty_row}
 use Rattle.words.specs.Words.{encode, block_of}

@@ -4,13 +4,16 @@ use Rattle.std.proofs.Common.{arith, inl, inr, sym, ap, ◌∙◌}
 use Rattle.laws.specs.Powers.{Pow64}
 use Rattle.laws.specs.Reply.{Reply, accepted, refused}
 use Rattle.model.specs.Block.{Block, Spot, no_id}
-use Rattle.model.specs.Effects.{LiveIn, released, renamed}
+use Rattle.model.specs.Effects.{LiveIn}
+use Rattle.model.proofs.Effects.{released, renamed}
 use Rattle.model.specs.GivingBack.{release, rename}
-use Rattle.model.specs.NoneLive.{NoneLive, release-refused, rename-refused}
+use Rattle.model.specs.NoneLive.{NoneLive}
+use Rattle.model.proofs.NoneLive.{release-refused, rename-refused}
 use Rattle.model.specs.Placing.{Request, place}
-use Rattle.model.specs.Put.{accepted-formed}
-use Rattle.model.specs.Refusals.{refused-range, refused-3, refused-4, refused-5, refused-6, refused-7, refused-8, refused-9}
-use Rattle.model.specs.Requests.{Words, WellFormed, no_fault, no_fault_words}
+use Rattle.model.proofs.Put.{accepted-formed}
+use Rattle.model.proofs.Refusals.{refused-range, refused-3, refused-4, refused-5, refused-6, refused-7, refused-8, refused-9}
+use Rattle.model.specs.Requests.{Words, WellFormed}
+use Rattle.model.proofs.Requests.{no_fault, no_fault_words}
 use Rattle.table.specs.Layout.{Slot, next_id, id_at, kind_at}
 use Rattle.words.specs.Words.{block_of, decode}
 use Rattle.words.specs.Soundness.{Used, Sound}
@@ -18,8 +21,9 @@ use Rattle.opening.specs.Look.{on_table}
 use Rattle.sub_allocator.specs.Answers.{Given}
 use Rattle.placing.specs.Placing.{given, allocate_on}
 use Rattle.giving_back.specs.GivingBack.{changes, free_on, rename_on}
-use Rattle.opening.specs.Looked.{TableWords, sound-answered}
-use Rattle.opening.specs.Outcomes.{outcome-kept, outcome-accepted, outcome-1, outcome-2, outcome-later, outcome-range}
+use Rattle.opening.specs.Looked.{TableWords}
+use Rattle.opening.proofs.Looked.{sound-answered}
+use Rattle.opening.proofs.Outcomes.{outcome-kept, outcome-accepted, outcome-1, outcome-2, outcome-later, outcome-range}
 use Rattle.block.specs.SlotsOnWords.{table-known, spot-stands, none-live-words, all-used-words}
 use Rattle.block.specs.RoomOnWords.{RoomAt, SplitsAt, PlacedAt, no-room-words, splits-words, placed-accepted, room_accepted}
 

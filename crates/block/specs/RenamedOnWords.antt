@@ -2,14 +2,14 @@
 use Rattle.std.specs.Prelude.{ℕ, List, ◌≢◌, ◌≡◌, refl}
 use Rattle.std.proofs.Common.{sym, subst, ◌∙◌}
 use Rattle.laws.specs.Reply.{accepted}
-use Rattle.model.specs.Effects.{renamed}
+use Rattle.model.proofs.Effects.{renamed}
 use Rattle.model.specs.GivingBack.{relabel, rename}
-use Rattle.model.specs.Kept.{rename-keeps}
+use Rattle.model.proofs.Kept.{rename-keeps}
 use Rattle.model.specs.Soundness.{Sound as SoundBlock}
 use Rattle.table.specs.Layout.{next_id, id_at, size_at, first_byte_at, kind_at}
 use Rattle.words.specs.Words.{encode, block_of}
-use Rattle.words.specs.Rows.{encode-head}
-use Rattle.opening.specs.Outcomes.{outcome-accepted}
+use Rattle.words.proofs.Rows.{encode-head}
+use Rattle.opening.proofs.Outcomes.{outcome-accepted}
 use Rattle.giving_back.specs.GivingBack.{rename_on}
 use Rattle.block.specs.Entries.{Entry, Tells, Same}
 use Rattle.block.specs.Refused.{LiveSlot}

@@ -13,12 +13,12 @@ use Rattle.model.specs.Soundness.{Sound as SoundBlock, DifferentSlots}
 use Rattle.table.specs.Layout.{Slot, slot_count, size_at, first_byte_at, row, empty_row}
 use Rattle.words.specs.Words.{encode, block_of}
 use Rattle.words.specs.Soundness.{Used, Sound}
-use Rattle.words.specs.Checked.{decode-exactly}
-use Rattle.words.specs.Laid.{sound-laid, block_back}
-use Rattle.words.specs.Linked.{row_at-none}
-use Rattle.words.specs.Rows.{encode-slots}
-use Rattle.words.specs.Spots.{slot_unused}
-use Rattle.words.specs.Written.{decode-encode}
+use Rattle.words.proofs.Checked.{decode-exactly}
+use Rattle.words.proofs.Laid.{sound-laid, block_back}
+use Rattle.words.proofs.Linked.{row_at-none}
+use Rattle.words.proofs.Rows.{encode-slots}
+use Rattle.words.proofs.Spots.{slot_unused}
+use Rattle.words.proofs.Written.{decode-encode}
 use Rattle.opening.specs.Looked.{TableWords, table_exactly}
 use Rattle.block.specs.Entries.{Entry, entry_at, Tells, Empty, Same}
 use Rattle.block.specs.SlotsOnWords.{Standing, table-known, spot-stands, slot-holds}

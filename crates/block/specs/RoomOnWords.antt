@@ -10,21 +10,25 @@ use Rattle.laws.specs.Tests.{either}
 use Rattle.pages.specs.Vulkan.{Resource}
 use Rattle.model.specs.Block.{Chunk, Block, Spot, total, first, no_id}
 use Rattle.model.specs.Choose.{Cut}
-use Rattle.model.specs.Effects.{placed-cases}
+use Rattle.model.proofs.Effects.{placed-cases}
 use Rattle.model.specs.Placing.{Request, Placed, taken_at, chosen, new_slot, place}
 use Rattle.model.specs.Put.{Lowest, Choice}
-use Rattle.model.specs.Refusals.{Splits, exact-fit, split-accepted}
+use Rattle.model.specs.Refusals.{Splits}
+use Rattle.model.proofs.Refusals.{exact-fit, split-accepted}
 use Rattle.model.specs.Requests.{WellFormed}
-use Rattle.model.specs.Room.{bytes, Keeps, KeepsBefore, KeepsAfter, Room, Taken, choice, no_room, put-best}
-use Rattle.model.specs.Slots.{Unused, new_slot_lem}
+use Rattle.model.specs.Room.{bytes, Keeps, KeepsBefore, KeepsAfter, Room, Taken}
+use Rattle.model.proofs.Room.{choice, no_room, put-best}
+use Rattle.model.specs.Slots.{Unused}
+use Rattle.model.proofs.Slots.{new_slot_lem}
 use Rattle.table.specs.Layout.{Slot, next_id, id_at, size_at, first_byte_at, kind_at, next_at, previous_at}
 use Rattle.words.specs.Words.{slot_of, block_of}
 use Rattle.words.specs.Soundness.{Used, Sound}
 use Rattle.opening.specs.Calls.{leaves}
 use Rattle.sub_allocator.specs.Answers.{Given}
 use Rattle.placing.specs.Placing.{given, allocate_on}
-use Rattle.opening.specs.Looked.{TableWords, sound-answered}
-use Rattle.opening.specs.Outcomes.{told-refused, outcome-accepted}
+use Rattle.opening.specs.Looked.{TableWords}
+use Rattle.opening.proofs.Looked.{sound-answered}
+use Rattle.opening.proofs.Outcomes.{told-refused, outcome-accepted}
 use Rattle.block.specs.SlotsOnWords.{Standing, table-known, spot-stands, slot-holds, every-chunk}
 
 -- the bytes of the chunk in slot k, as Vulkan's rule takes them

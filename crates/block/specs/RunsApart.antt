@@ -5,8 +5,10 @@ use mathlib.Core.List.{List, [], ◌∷◌, Memᴰ}
 use Rattle.laws.specs.Lists.{All, Pairwise, pair_at}
 use Rattle.laws.specs.Powers.{Pow2}
 use Rattle.laws.specs.Reply.{Reply, accepted, refused, not_refused}
-use Rattle.laws.specs.Rounding.{align_down, down_quotient}
-use Rattle.model.specs.Apart.{Coarse, AllCoarse, Apart, Stands, each_byte, ranges_apart, ranges-within, live_chunk, live-range}
+use Rattle.laws.specs.Rounding.{align_down}
+use Rattle.laws.proofs.Rounding.{down_quotient}
+use Rattle.model.specs.Apart.{Coarse, AllCoarse, Apart, Stands}
+use Rattle.model.proofs.Apart.{each_byte, ranges_apart, ranges-within, live_chunk, live-range}
 use Rattle.model.specs.Block.{Block, Spot}
 use Rattle.model.specs.Choose.{Cut}
 use Rattle.model.specs.Placing.{Placed, place}
@@ -16,16 +18,17 @@ use Rattle.model.specs.Soundness.{Sound as SoundBlock}
 use Rattle.table.specs.Layout.{slot_count, block_size, id_at, size_at, first_byte_at, kind_at}
 use Rattle.words.specs.Words.{encode, sound}
 use Rattle.words.specs.Soundness.{Used, Sound}
-use Rattle.words.specs.Laid.{sound-laid, block_back}
-use Rattle.words.specs.Rows.{encode-head}
-use Rattle.words.specs.Spots.{InSlot, in_words, written-spot, used-spot, spot-used}
-use Rattle.words.specs.Written.{decode-encode, decode-table}
+use Rattle.words.proofs.Laid.{sound-laid, block_back}
+use Rattle.words.proofs.Rows.{encode-head}
+use Rattle.words.specs.Spots.{InSlot}
+use Rattle.words.proofs.Spots.{in_words, written-spot, used-spot, spot-used}
+use Rattle.words.proofs.Written.{decode-encode, decode-table}
 use Rattle.opening.specs.Calls.{leaves}
 use Rattle.opening.specs.Creation.{new_on}
 use Rattle.sub_allocator.specs.Answers.{Given}
 use Rattle.placing.specs.Placing.{given, allocate_on}
-use Rattle.opening.specs.Exactly.{new-accepted}
-use Rattle.opening.specs.NewBlock.{new-table, new-sound}
+use Rattle.opening.proofs.Exactly.{new-accepted}
+use Rattle.opening.proofs.NewBlock.{new-table, new-sound}
 use Rattle.block.specs.Runs.{WordsState, step_on, run_on, begin_on}
 use Rattle.block.specs.RunsWritten.{allocate-written, written, step-written, run-written, step_kept, run-kept, begin-written, run_length, run_sound}
 

@@ -4,7 +4,7 @@ use Rattle.std.proofs.Common.{ap, ◌∙◌}
 use Rattle.laws.specs.Reply.{Reply, accepted, refused}
 use Rattle.model.specs.Block.{Block, allocated}
 use Rattle.model.specs.GivingBack.{release, rename}
-use Rattle.model.specs.Kept.{place-keeps, release-keeps, rename-keeps}
+use Rattle.model.proofs.Kept.{place-keeps, release-keeps, rename-keeps}
 use Rattle.model.specs.Lines as model
 use Rattle.model.specs.Lines.{Line, line, line_of, lines}
 use Rattle.model.specs.Placing.{Placed, place}
@@ -13,7 +13,7 @@ use Rattle.model.specs.Runs.Call.{allocate, free, rename_to}
 use Rattle.model.specs.Soundness.{Sound as SoundBlock}
 use Rattle.table.specs.Layout.{slot_count}
 use Rattle.words.specs.Words.{encode}
-use Rattle.words.specs.Written.{decode-encode}
+use Rattle.words.proofs.Written.{decode-encode}
 use Rattle.opening.specs.Calls.{leaves}
 use Rattle.opening.specs.Creation.{new_on}
 use Rattle.giving_back.specs.GivingBack.{changes}

@@ -4,8 +4,8 @@ use Rattle.std.proofs.Common.{sym, ap, ◌∙◌}
 use Rattle.laws.specs.Reply.{Reply, accepted, refused}
 use Rattle.model.specs.Block.{Block}
 use Rattle.model.specs.GivingBack.{release, rename}
-use Rattle.model.specs.Heads.{place-heads, release-heads, rename-heads}
-use Rattle.model.specs.Kept.{place-keeps, release-keeps, rename-keeps}
+use Rattle.model.proofs.Heads.{place-heads, release-heads, rename-heads}
+use Rattle.model.proofs.Kept.{place-keeps, release-keeps, rename-keeps}
 use Rattle.model.specs.Placing.{Request, Placed, place}
 use Rattle.model.specs.Runs.{Call, Range, State, step, run, begin, after_place}
 use Rattle.model.specs.Runs as model
@@ -14,16 +14,16 @@ use Rattle.model.specs.Soundness.{Sound as SoundBlock}
 use Rattle.table.specs.Layout.{word_count, slot_count}
 use Rattle.words.specs.Words.{encode, Read, not_a_table, unsound, table, decode}
 use Rattle.words.specs.Soundness.{Sound}
-use Rattle.words.specs.Checked.{decode-exactly}
-use Rattle.words.specs.Rows.{encode-length}
-use Rattle.words.specs.Written.{decode-encode, encode-decode, decode-sound}
+use Rattle.words.proofs.Checked.{decode-exactly}
+use Rattle.words.proofs.Rows.{encode-length}
+use Rattle.words.proofs.Written.{decode-encode, encode-decode, decode-sound}
 use Rattle.opening.specs.Look.{on_table}
 use Rattle.opening.specs.Calls.{leaves}
 use Rattle.opening.specs.Creation.{new_on}
 use Rattle.placing.specs.Placing.{given, allocate_on}
 use Rattle.giving_back.specs.GivingBack.{changes, free_on, rename_on}
 use Rattle.opening.specs.Looked.{TableWords, table_exactly}
-use Rattle.opening.specs.NewBlock.{new-read}
+use Rattle.opening.proofs.NewBlock.{new-read}
 use Rattle.block.specs.Runs.{WordsState, after_allocate, after_free, after_rename, step_on, run_on, begin_on}
 
 -- ---- a call on the words that a sound block is written as

@@ -5,15 +5,18 @@ use Rattle.std.proofs.Common.{sym, ◌∙◌}
 use Rattle.laws.specs.Cuts.{from-right}
 use Rattle.laws.specs.Lists.{All, all_at}
 use Rattle.model.specs.Block.{Chunk, Spot, first}
-use Rattle.model.specs.Choose.{Cut, cut-of_spot, spot-of_cut, all_spots}
+use Rattle.model.specs.Choose.{Cut}
+use Rattle.model.proofs.Choose.{cut-of_spot, spot-of_cut, all_spots}
 use Rattle.model.specs.NoneLive.{NoneLive}
 use Rattle.model.specs.Slots.{Used as UsedBy}
 use Rattle.table.specs.Layout.{Slot, id_at, size_at, first_byte_at, kind_at, label_at, next_at, previous_at}
 use Rattle.words.specs.Words.{slot_of, block_of, sound}
 use Rattle.words.specs.Soundness.{Used, Sound}
-use Rattle.words.specs.Written.{Known, known}
-use Rattle.words.specs.Checked.{sound-exactly}
-use Rattle.words.specs.Spots.{InSlot, sound-spot, in_words, used-spot, spot-used}
+use Rattle.words.specs.Written.{Known}
+use Rattle.words.proofs.Written.{known}
+use Rattle.words.proofs.Checked.{sound-exactly}
+use Rattle.words.specs.Spots.{InSlot}
+use Rattle.words.proofs.Spots.{sound-spot, in_words, used-spot, spot-used}
 use Rattle.opening.specs.Looked.{TableWords, table_exactly}
 
 -- the chunk of z, with its neighbours, stands in slot k

@@ -13,7 +13,7 @@ use Rattle.opening.specs.Creation.{new_on}
 use Rattle.opening.specs.Questions.{allocated_on}
 use Rattle.placing.specs.Placing.{allocate_on}
 use Rattle.giving_back.specs.GivingBack.{free_on, rename_on}
-use Rattle.opening.specs.NewBlock.{new_blind}
+use Rattle.opening.proofs.NewBlock.{new_blind}
 use Rattle.block.specs.Runs.{WordsState, run_on, begin_on, lines_on}
 
 abbrev linear : ℕ → ℕ → Call

@@ -2,7 +2,8 @@
 use Rattle.std.specs.Prelude.{ℕ, zero, suc, ◌+◌, ◌-◌, ◌*◌, ◌/◌, ◌^◌, ◌≤◌, ◌<◌, ◌≡◌, refl, length}
 use Rattle.std.proofs.Common.{sym, ap, ◌∙◌, div-one, mul-le-mul_right, arith, length-append, lt-ltb, le-ltb}
 use Rattle.std.proofs.Math.Nat.{div-div-eq-div-mul, pow-succ', sub_self}
-use Rattle.laws.specs.Nearest.{Nearest, nearest-is}
+use Rattle.laws.specs.Nearest.{Nearest}
+use Rattle.laws.proofs.Nearest.{nearest-is}
 use Rattle.laws.specs.Decimal.{decimal, decimal-short}
 use Rattle.laws.specs.Powers.{fewer}
 use Rattle.laws.specs.Tests.{either}

@@ -6,7 +6,8 @@ use Rattle.std.proofs.Common.{ap, ◌∙◌, arith, length-append, le-leb}
 use Rattle.laws.specs.Decimal.{decimal, digit, value_from, decimal-small, decimal-large, decimal-reads, decimal-bytes}
 use Rattle.laws.specs.Every.{two, more, every}
 use Rattle.laws.specs.Letters.{bytes}
-use Rattle.laws.specs.Nearest.{Nearest, nearest-is}
+use Rattle.laws.specs.Nearest.{Nearest}
+use Rattle.laws.proofs.Nearest.{nearest-is}
 use Rattle.laws.specs.Tests.{either}
 use Rattle.byte_text.specs.declared.Shown.{Shown}
 use Rattle.byte_text.specs.ByteText.{suffix, shown_as, shown, hundredths, places, text_of, fmt_bytes}

@@ -9,7 +9,7 @@ use lib.ListN.{set, length-set}
 use lib.Seq.{set-get_or}
 use Rattle.model.specs.Block.{Spot, first, live_size}
 use Rattle.model.specs.GivingBack.{grown, relabel}
-use Rattle.model.specs.Totals.{free_size, live_size_lem}
+use Rattle.model.proofs.Totals.{free_size, live_size_lem}
 use Rattle.table.specs.Layout.{Slot, allocated_word, size_at, at}
 use Rattle.stores.specs.Stores.{OnlySlot, nothing, stored, row-head_set}
 use Rattle.words.specs.Words.{slot_of, row_of, encode, block_of}

@@ -13,7 +13,8 @@ use Rattle.laws.specs.Reply.{Reply, accepted, refused, number, not_refused}
 use Rattle.laws.specs.Tests.{both, both_pass, cond_cases}
 use Rattle.pages.specs.Pages.{power_of_two}
 use Rattle.model.specs.Placing.{Request, fault}
-use Rattle.model.specs.Requests.{Words, WellFormed, no_fault_words, fault-range, fault-size, fault-alignment, fault-granularity, fault-kind}
+use Rattle.model.specs.Requests.{Words, WellFormed}
+use Rattle.model.proofs.Requests.{no_fault_words, fault-range, fault-size, fault-alignment, fault-granularity, fault-kind}
 use Rattle.sub_allocator.specs.Answers.{Given}
 use Rattle.dedicated.specs.Dedicated.{is_sound, block, new_block, request_fault, id_fault, writes, allocate_in, free_in, rename_in, asks, allocated_in, is_empty_in, report_of}
 use Rattle.dedicated.specs.declared.record.DedicatedBlock.{DedicatedBlock}

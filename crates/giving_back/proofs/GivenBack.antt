@@ -15,7 +15,7 @@ use Rattle.model.specs.Effects.{chunks_of}
 use Rattle.model.specs.GivingBack.{grown, merge_left, merge_right, freed}
 use Rattle.model.specs.Placing.{with_chunks}
 use Rattle.model.specs.Sums.{total-cut, allocated-cut}
-use Rattle.model.specs.Totals.{replaced-total, live_size_lem}
+use Rattle.model.proofs.Totals.{replaced-total, live_size_lem}
 use Rattle.table.specs.Layout.{Slot, slot_count, allocated_word, size_at, kind_at, next_at, previous_at}
 use Rattle.words.specs.Laid.{Laid}
 use Rattle.words.proofs.Laid.{block_back}

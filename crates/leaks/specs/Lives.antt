@@ -9,7 +9,7 @@ use Rattle.laws.specs.Every.{cases}
 use Rattle.laws.specs.Lists.{All, Pairwise}
 use Rattle.laws.specs.Tests.{cond_cases}
 use Rattle.model.specs.Block.{Chunk, Spot, total, is_free, allocated, spots}
-use Rattle.model.specs.Choose.{cut-of_spot, spot-of_cut}
+use Rattle.model.proofs.Choose.{cut-of_spot, spot-of_cut}
 use Rattle.table.specs.Layout.{Slot, allocated_word, id_at, size_at, first_byte_at, kind_at, label_at}
 use Rattle.words.specs.Words.{block_of, sound}
 use Rattle.words.specs.Soundness.{Sound}

@@ -3,7 +3,7 @@ use Rattle.std.specs.Prelude.{ℕ, ◌≤◌, true, List, ◌≡◌, refl, lengt
 use Rattle.std.proofs.Common.{arith, sym, ap, ◌∙◌, ne_eqb}
 use Rattle.laws.specs.Reply.{accepted, not_refused}
 use Rattle.model.specs.Block.{Block, fresh}
-use Rattle.model.specs.Kept.{fresh-sound}
+use Rattle.model.proofs.Kept.{fresh-sound}
 use Rattle.model.specs.Soundness.{Sound as SoundBlock}
 use Rattle.table.specs.Layout.{slot_count, table_shape}
 use Rattle.words.specs.Words.{encode, row_at, table, decode}

@@ -11,7 +11,7 @@ use Rattle.model.specs.Choose.{Cut}
 use Rattle.model.specs.GivingBack.{grown}
 use Rattle.model.specs.Soundness.{DifferentSlots}
 use Rattle.model.specs.Sums.{allocated-cut}
-use Rattle.model.specs.Totals.{free_size}
+use Rattle.model.proofs.Totals.{free_size}
 use Rattle.table.specs.Layout.{slot_count, Slot, first_byte_at, kind_at, label_at, next_at, row}
 use Rattle.words.specs.Words.{slot_of, row_at, encode, block_of, slots_of}
 use Rattle.words.proofs.Linked.{row_at-there, row_at-none}

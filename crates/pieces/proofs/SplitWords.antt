@@ -10,7 +10,7 @@ use Rattle.model.specs.Block.{Chunk, Spot, total, allocated}
 use Rattle.model.specs.Effects.{chunks_of}
 use Rattle.model.specs.Placing.{remainder_of}
 use Rattle.model.specs.Sums.{allocated-cut}
-use Rattle.model.specs.Totals.{free_size, live_size_lem}
+use Rattle.model.proofs.Totals.{free_size, live_size_lem}
 use Rattle.table.specs.Layout.{Slot, next_id, first_slot, id_at, size_at, first_byte_at, kind_at, label_at, previous_at, row}
 use Rattle.words.specs.Words.{slot_of, row_at, encode, block_of, slots_of}
 use Rattle.words.proofs.Linked.{row_at-there}

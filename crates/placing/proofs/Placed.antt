@@ -10,11 +10,13 @@ use Rattle.laws.specs.Powers.{Pow2}
 use Rattle.laws.specs.Reply.{Reply, accepted, refused}
 use Rattle.model.specs.Block.{Spot, total, first, allocated, largest_block, no_id}
 use Rattle.model.specs.Placing.{Request, Placed, offset_at, taken_at, offset_in, taken, chosen, new_slot, fault, unless_fault, place_in, place}
-use Rattle.model.specs.Put.{Choice, FitsIn, answers, choice-fits}
-use Rattle.model.specs.Requests.{Formed, no_fault}
+use Rattle.model.specs.Put.{Choice, FitsIn}
+use Rattle.model.proofs.Put.{answers, choice-fits}
+use Rattle.model.specs.Requests.{Formed}
+use Rattle.model.proofs.Requests.{no_fault}
 use Rattle.model.specs.Soundness.{Sound}
 use Rattle.model.specs.Sums.{total-cut, allocated-cut, allocated-most}
-use Rattle.model.specs.Totals.{free_size}
+use Rattle.model.proofs.Totals.{free_size}
 use Rattle.table.specs.Layout.{Slot, is_table, slot_count, allocated_word, next_id, id_at, size_at, first_byte_at, previous_at}
 use Rattle.words.specs.Spots.{InSlot}
 use Rattle.words.proofs.Spots.{in_table, in_words}

@@ -3,7 +3,8 @@ use Rattle.std.proofs.Common.{◌≡◌, ℕ, ◌<◌, ◌≤◌, true, ◌≢�
 use mathlib.Core.List.{Memᴰ}
 use mathlib.Core.Option.{Option, none, some}
 use Rattle.model.specs.Block.{Spot, spots}
-use Rattle.model.specs.Choose.{Found, found, cut-of_spot, spot-of_cut}
+use Rattle.model.specs.Choose.{Found}
+use Rattle.model.proofs.Choose.{found, cut-of_spot, spot-of_cut}
 use Rattle.model.specs.GivingBack.{is_live, find_live}
 use Rattle.table.specs.Layout.{is_table, slot_count, Slot, id_at, kind_at}
 use Rattle.words.specs.Words.{block_of, sound}

@@ -3,7 +3,8 @@
 use Rattle.std.proofs.Common.{◌≡◌, ℕ, ◌+◌, ◌-◌, ◌^◌, ◌<◌, ◌≤◌, Bool, true, false, List, sym, refl, ◌∙◌, le_trans, arith, pow_mono, le-leb}
 use borrow.Author.Tests.{lt-leb}
 use Rattle.laws.specs.Powers.{Pow2, pow2_pos, pow2_divides}
-use Rattle.laws.specs.Rounding.{align_up, up_least}
+use Rattle.laws.specs.Rounding.{align_up}
+use Rattle.laws.proofs.Rounding.{up_least}
 use Rattle.laws.specs.Tests.{cond_cases}
 use Rattle.pages.specs.Pages.{is_power_of_two, power_of_two}
 use Rattle.pages.specs.Vulkan.{Resource, may_stand}

@@ -5,7 +5,8 @@ use Rattle.std.proofs.Common.{subst, eqb-true}
 use Rattle.laws.specs.Every.{every}
 use Rattle.laws.specs.Tests.{both}
 use Rattle.model.specs.Block.{Spot, first, is_free, spots}
-use Rattle.model.specs.Choose.{Best, best-spot, cut-of_spot}
+use Rattle.model.specs.Choose.{Best}
+use Rattle.model.proofs.Choose.{best-spot, cut-of_spot}
 use Rattle.model.specs.Placing.{Request, fits_at, chunk_before, chunk_after, holds, chosen}
 use Rattle.table.specs.Layout.{size_at, first_byte_at, kind_at}
 use Rattle.words.specs.Words.{block_of, sound}

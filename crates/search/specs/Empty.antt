@@ -6,7 +6,7 @@ use Rattle.laws.specs.Lists.{All, all_map}
 use Rattle.laws.specs.Members.{has}
 use Rattle.model.specs.Block.{Chunk, Block}
 use Rattle.model.specs.Placing.{uses_slot, empty_slot, new_slot}
-use Rattle.model.specs.Slots.{new_slot_lem}
+use Rattle.model.proofs.Slots.{new_slot_lem}
 use Rattle.table.specs.Layout.{slot_count, id_at}
 use Rattle.words.specs.Words.{row_at, chunks_of, block_of, slots_of, sound}
 use Rattle.words.proofs.Spots.{slot_unused}

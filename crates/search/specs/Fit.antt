@@ -5,7 +5,7 @@ use Rattle.std.proofs.Math.Path.{refl}
 use Rattle.pages.specs.Vulkan.{Resource}
 use Rattle.model.specs.Block.{Chunk, Spot, total, first}
 use Rattle.model.specs.Placing.{Request, last_of, next_of, chunk_before, chunk_after, offset_at, offset_in}
-use Rattle.model.specs.Put.{next_begins}
+use Rattle.model.proofs.Put.{next_begins}
 use Rattle.table.specs.Layout.{size_at, first_byte_at, kind_at, next_at, previous_at}
 use Rattle.words.specs.Words.{slot_of}
 use Rattle.words.specs.Spots.{InSlot}

@@ -3,7 +3,8 @@ use Rattle.std.specs.Prelude.{◌≡◌, ℕ, Bool, true, ◌≢◌, List, [], r
 use Rattle.std.proofs.Common.{arith}
 use Rattle.std.proofs.Math.Option.{Option, none, some}
 use Rattle.model.specs.Block.{Spot, spots}
-use Rattle.model.specs.Choose.{Cut, Found, found, cut-of_spot}
+use Rattle.model.specs.Choose.{Cut, Found}
+use Rattle.model.proofs.Choose.{found, cut-of_spot}
 use Rattle.model.specs.GivingBack.{find}
 use Rattle.words.specs.Words.{block_of, sound}
 use Rattle.words.specs.Spots.{InSlot}

@@ -5,7 +5,8 @@ use Rattle.std.proofs.Common.{subst, eqb-true}
 use Rattle.std.proofs.lemmas.Bool.{eqb-false, not-true}
 use Rattle.laws.specs.Tests.{both}
 use Rattle.model.specs.Block.{Spot, is_free, spots}
-use Rattle.model.specs.Choose.{Found, found}
+use Rattle.model.specs.Choose.{Found}
+use Rattle.model.proofs.Choose.{found}
 use Rattle.model.specs.GivingBack.{is_live, find_live}
 use Rattle.words.specs.Words.{block_of, sound}
 use Rattle.words.specs.Spots.{InSlot}

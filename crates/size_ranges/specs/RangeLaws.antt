@@ -2,7 +2,8 @@
 use Rattle.std.specs.Prelude.{ℕ, ◌*◌, ◌%◌, ◌^◌, ◌≤◌, ◌<◌, max, Bool, true, ◌&&◌, ◌≡◌, refl, leb, eqb}
 use Rattle.std.proofs.Math.Decide.{dec_le}
 use Rattle.std.proofs.Common.{le_antisymm, arith, subst, leb-true, eqb-true, le-leb, eq-eqb}
-use Rattle.laws.specs.Rounding.{LeastMultiple, up_least}
+use Rattle.laws.specs.Rounding.{LeastMultiple}
+use Rattle.laws.proofs.Rounding.{up_least}
 use Rattle.laws.specs.Tests.{both}
 use Rattle.size_ranges.specs.SizeRanges.{MiB, clamp, adjust, is_block_size, is_range}
 
