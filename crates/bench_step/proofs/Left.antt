@@ -20,9 +20,9 @@ use Rattle.opening.specs.Looked.{TableWords, table_exactly}
 use Rattle.opening.proofs.Looked.{looked}
 use Rattle.opening.specs.Questions.{allocated_on}
 use Rattle.giving_back.specs.GivingBack.{free_on}
-use Rattle.block.specs.KeptOnWords.{allocate-sound, free-sound}
+use Rattle.block.proofs.KeptOnWords.{allocate-sound, free-sound}
 use Rattle.placing.specs.Placing.{allocate_on}
-use Rattle.block.specs.Refused.{allocate-refused-keeps, allocate-refused-1, allocate-refused-2, free-refused-keeps, free-refused-1, free-refused-2}
+use Rattle.block.proofs.Refused.{allocate-refused-keeps, allocate-refused-1, allocate-refused-2, free-refused-keeps, free-refused-1, free-refused-2}
 use Rattle.block.specs.Runs.{told}
 use Rattle.bench_step.specs.Step.{fault_told}
 

@@ -15,7 +15,7 @@ use Rattle.opening.specs.Creation.{new_on}
 use Rattle.opening.proofs.Exactly.{new-accepted}
 use Rattle.opening.specs.Looked.{TableWords}
 use Rattle.opening.proofs.NewBlock.{new-table, new-sound}
-use Rattle.block.specs.KeptOnWords.{allocate-length, allocate-sound, free-length, free-sound, rename-length, rename-sound}
+use Rattle.block.proofs.KeptOnWords.{allocate-length, allocate-sound, free-length, free-sound, rename-length, rename-sound}
 use Rattle.call_lines.specs.Format.{Asked}
 use Rattle.call_lines.specs.Format.Asked.{new, call}
 use Rattle.bench_step.specs.Step.{Outcome, opened, new_answered, words_after, line_after, call_answered, answered}

@@ -1,36 +1,14 @@
--- Demand 3, its second half, on words: after any calls the live ranges are apart, and are the live slots'. Assumes nothing.
-use Rattle.std.specs.Prelude.{ℕ, ◌+◌, ◌*◌, ◌/◌, ◌≤◌, ◌<◌, true, ◌↔◌, ◌≢◌, ◌≡◌, refl, length}
-use Rattle.std.proofs.Common.{arith, ⊎_elim, sym, ap, subst, ◌∙◌}
+-- Demand 3, its second half, on words: after any calls the live ranges are apart, and are the live slots'. Definitions. Assumes nothing.
+use Rattle.std.specs.Prelude.{ℕ, ◌+◌, ◌/◌, ◌≤◌, ◌<◌, ◌≢◌, ◌≡◌}
 use mathlib.Core.List.{List, [], ◌∷◌, Memᴰ}
-use Rattle.laws.specs.Lists.{All, Pairwise, pair_at}
-use Rattle.laws.specs.Powers.{Pow2}
-use Rattle.laws.specs.Reply.{Reply, accepted, refused, not_refused}
-use Rattle.laws.specs.Rounding.{align_down}
-use Rattle.laws.proofs.Rounding.{down_quotient}
-use Rattle.model.specs.Apart.{Coarse, AllCoarse, Apart, Stands}
-use Rattle.model.proofs.Apart.{each_byte, ranges_apart, ranges-within, live_chunk, live-range}
-use Rattle.model.specs.Block.{Block, Spot}
-use Rattle.model.specs.Choose.{Cut}
-use Rattle.model.specs.Placing.{Placed, place}
-use Rattle.model.specs.Runs.{Call, Range, State, step, run, begin}
+use Rattle.laws.specs.Reply.{accepted}
+use Rattle.model.specs.Runs.{Call, Range}
 use Rattle.model.specs.Runs.Call.{allocate, free, rename_to}
-use Rattle.model.specs.Soundness.{Sound as SoundBlock}
-use Rattle.table.specs.Layout.{slot_count, block_size, id_at, size_at, first_byte_at, kind_at}
-use Rattle.words.specs.Words.{encode, sound}
-use Rattle.words.specs.Soundness.{Used, Sound}
-use Rattle.words.proofs.Laid.{sound-laid, block_back}
-use Rattle.words.proofs.Rows.{encode-head}
-use Rattle.words.specs.Spots.{InSlot}
-use Rattle.words.proofs.Spots.{in_words, written-spot, used-spot, spot-used}
-use Rattle.words.proofs.Written.{decode-encode, decode-table}
-use Rattle.opening.specs.Calls.{leaves}
-use Rattle.opening.specs.Creation.{new_on}
+use Rattle.table.specs.Layout.{id_at, size_at, first_byte_at, kind_at}
+use Rattle.words.specs.Soundness.{Used}
 use Rattle.sub_allocator.specs.Answers.{Given}
-use Rattle.placing.specs.Placing.{given, allocate_on}
-use Rattle.opening.proofs.Exactly.{new-accepted}
-use Rattle.opening.proofs.NewBlock.{new-table, new-sound}
-use Rattle.block.specs.Runs.{WordsState, step_on, run_on, begin_on}
-use Rattle.block.specs.RunsWritten.{allocate-written, written, step-written, run-written, step_kept, run-kept, begin-written, run_length, run_sound}
+use Rattle.placing.specs.Placing.{allocate_on}
+use Rattle.block.specs.Runs.{WordsState, step_on}
 
 -- ---- the granularities of a run
 
@@ -45,34 +23,6 @@ abbrev pub AllCoarseOn : ℕ → List Call → WordsState → Type 0
 AllCoarseOn G [] s = Unit {0}
 AllCoarseOn G (c ∷ cs) s = CoarseOn G c s.words × AllCoarseOn G cs (step_on c s)
 
--- On the words of a sound block a call does exactly where it does on the block.
-coarse_written : (G : ℕ) (c : Call) (b : Block) → SoundBlock b → CoarseOn G c (encode b) ↔ Coarse G c b
-coarse_written G (allocate r) b h = (
-  λ k p e. k (given p) (answer ∙ ap (λ (a : Reply Placed). (leaves given (λ p. p.block) (encode b) a).0) e),
-  λ k g e. on (place r b) refl k (sym answer ∙ e),
-)
-  where
-    answer : (allocate_on (encode b) r).0 ≡ (leaves given (λ p. p.block) (encode b) (place r b)).0
-    answer = ap (λ (a : Reply Given × List ℕ). a.0) (allocate-written b h r)
-
-    on : {g : Given} (a : Reply Placed) → place r b ≡ a → ((p : Placed) → place r b ≡ accepted p → G ≤ r.granularity)
-        → (leaves given (λ p. p.block) (encode b) a).0 ≡ accepted g → G ≤ r.granularity
-    on (accepted p) e k q = k p e
-    on (refused n) e k q = absurd (not_refused (sym q))
-coarse_written G (free id) b h = (λ k. tt, λ k. tt)
-coarse_written G (rename_to id label) b h = (λ k. tt, λ k. tt)
-
--- And so does a run.
-pub all_coarse_written : (G : ℕ) (cs : List Call) (s : State) → SoundBlock s.block
-    → AllCoarseOn G cs (written s) ↔ AllCoarse G cs s
-all_coarse_written G [] s h = (λ k. tt, λ k. tt)
-all_coarse_written G (c ∷ cs) s h =
-    let one = coarse_written G c s.block h in
-    let many = all_coarse_written G cs (step c s) (step_kept s h c).sound in
-    let e = step-written s h c in
-    let A = AllCoarseOn G cs in
-    (λ k. (one.0 k.0, many.0 (subst A e k.1)), λ k. (one.1 k.0, subst A (sym e) (many.1 k.1)))
-
 -- ---- slots and ranges
 
 -- slot k is used and live, and the range stands in it: it has its id and its kind and ends where it ends, and before it
@@ -86,45 +36,11 @@ pub record StandsIn (ws : List ℕ) (k : ℕ) (x : Range) : Type 0 where
   pub to : x.offset + x.size ≡ first_byte_at ws k + size_at ws k
   pub some : 1 ≤ x.size
 
-module _ (b : Block) (h : SoundBlock b) where
-  written-sound : sound (encode b) ≡ true
-  written-sound = (decode-table (encode b) b (decode-encode b h)).1
-
-  -- a range that stands in the chunk stands in its slot
-  stands-slot : (k : ℕ) (z : Spot) → InSlot (encode b) k z → z.chunk.kind ≢ 0 → (x : Range) → Stands x z
-      → StandsIn (encode b) k x
-  stands-slot k z i n x s =
-      let r = in_words i in
-      record {
-        used = spot-used (encode b) written-sound k z i;
-        live = λ q. n (sym r.kind ∙ q);
-        id = s.id ∙ sym r.id;
-        kind = s.kind ∙ sym r.kind;
-        from = omega (arith, s.from, r.begins);
-        to = omega (arith, s.to, r.begins, r.size);
-        some = s.some;
-      }
-
-  -- each chunk is in its slot, and a used slot is a chunk's
-  chunk-slot : (z : Spot) → Cut b.chunks z → InSlot (encode b) z.chunk.slot z
-  chunk-slot z cut = written-spot b (sound-laid b h) (encode b) refl z cut z.chunk.slot refl
-
-  slot-chunk : (k : ℕ) → Used (encode b) k → (z : Spot) × Cut b.chunks z × InSlot (encode b) k z
-  slot-chunk k u =
-      let f = used-spot (encode b) written-sound k u in
-      (f.0, rw (block_back b (sound-laid b h)) at f.1.cut, f.1)
-
 -- the ranges are those of the live slots: each stands in one, and in each stands one
 pub record LiveSlots (s : WordsState) : Type 0 where
   pub slot : (x : Range) → Memᴰ x s.live → (k : ℕ) × StandsIn s.words k x
   pub range : (k : ℕ) → Used s.words k → kind_at s.words k ≢ 0
       → (x : Range) × Memᴰ x s.live × StandsIn s.words k x
-
--- ---- ranges that are apart, in plain numbers
-
--- bytes on one page have one start of it
-one_page : (G p q : ℕ) → p / G ≡ q / G → align_down p G ≡ align_down q G
-one_page G p q e = down_quotient p G ∙ ap (λ (n : ℕ). n * G) e ∙ sym (down_quotient q G)
 
 -- the ids of two ranges differ; byte p of the one is not byte q of the other; and where the kinds differ these bytes lie
 -- on different pages of G bytes
@@ -132,96 +48,3 @@ abbrev pub BytesApart : ℕ → Range → Range → Type 0
 BytesApart G x y =
     (x.id ≢ y.id) × ((p q : ℕ) → p < x.size → q < y.size
     → (x.offset + p ≢ y.offset + q) × (x.kind ≢ y.kind → (x.offset + p) / G ≢ (y.offset + q) / G))
-
-bytes_apart : (G : ℕ) (x y : Range) → Apart G x y → BytesApart G x y
-bytes_apart G x y a = (
-  a.ids,
-  λ p q l m. (
-    λ e. a.bytes (y.offset + q) (rw (← e) (each_byte x p l)) (each_byte y q m),
-    λ d e. a.pages d (x.offset + p) (y.offset + q) (each_byte x p l) (each_byte y q m) (one_page G _ _ e),
-  ),
-)
-
--- the other way round
-bytes-other : (G : ℕ) (x y : Range) → Apart G y x → BytesApart G x y
-bytes-other G x y a =
-    let b = bytes_apart G y x a in
-    (λ e. b.0 (sym e), λ p q l m. let c = b.1 q p m l in (λ e. c.0 (sym e), λ d e. c.1 (λ f. d (sym f)) (sym e)))
-
--- ---- the demand
-
-module _ (ws : List ℕ) (size : ℕ) (ok : (new_on ws size).0 ≡ accepted tt) (cs : List Call) where
-  abbrev first-state : State
-  first-state = begin size (slot_count ws)
-
-  -- The run on words is that of the block, written.
-  pub words-run : run_on cs (begin_on ws size) ≡ written (run cs (begin size (slot_count ws)))
-  words-run = let e = begin-written ws size ok in ap (run_on cs) e.0 ∙ run-written cs first-state e.1
-
-  -- Its accepted allocations name granularities of at least G exactly where the block's do.
-  pub words-coarse : (G : ℕ) → AllCoarseOn G cs (begin_on ws size) ↔ AllCoarse G cs (begin size (slot_count ws))
-  words-coarse G = let e = begin-written ws size ok in rw e.0 (all_coarse_written G cs first-state e.1)
-
-  -- what is said of the block's run is said of the run on words
-  run_ends : (P : WordsState → Type 0) → P (written (run cs first-state)) → P (run_on cs (begin_on ws size))
-  run_ends P p = subst P (sym words-run) p
-
-  -- After any calls on a new table, refused ones among them, where every accepted allocation named a granularity of
-  -- at least G, a power of two: any two of the ranges that were handed out and not given back have different ids and no
-  -- byte in common, and where their kinds differ no byte of the one lies on a page of G bytes with a byte of the other.
-  pub words-apart : (G : ℕ) → Pow2 G → AllCoarseOn G cs (begin_on ws size)
-      → Pairwise (Apart G) (run_on cs (begin_on ws size)).live
-  words-apart G pg h =
-      let s = (begin-written ws size ok).1 in
-      run_ends (λ s. Pairwise (Apart G) s.live)
-      (ranges_apart size (slot_count ws) s.size.0 s.size.1 s.slots.0 s.slots.1 cs G pg
-      ((words-coarse G).0 h))
-
-  -- The same in plain numbers, of any two of them.
-  pub words-bytes : (G : ℕ) → Pow2 G → AllCoarseOn G cs (begin_on ws size) → (x y : Range)
-      → Memᴰ x (run_on cs (begin_on ws size)).live → Memᴰ y (run_on cs (begin_on ws size)).live → (x ≡ y → ⊥)
-      → BytesApart G x y
-  words-bytes G pg h x y m k n =
-      ⊎_elim (λ e. absurd (n e)) (⊎_elim (λ a. bytes_apart G x y a) (λ a. bytes-other G x y a))
-      (pair_at (Apart G) (run_on cs (begin_on ws size)).live (words-apart G pg h) x y m k)
-
-  -- Whatever the granularities, every such range lies within the block.
-  pub words-within : All (λ x. x.offset + x.size ≤ size) (run_on cs (begin_on ws size)).live
-  words-within =
-      let s = (begin-written ws size ok).1 in
-      run_ends (λ s. All (λ x. x.offset + x.size ≤ size) s.live)
-      (ranges-within size (slot_count ws) s.size.0 s.size.1 s.slots.0 s.slots.1 cs)
-
-  -- They are those of the live slots of the words after the calls.
-  pub words-live : LiveSlots (run_on cs (begin_on ws size))
-  words-live =
-      let s = (begin-written ws size ok).1 in
-      let b : Block = (run cs first-state).block in
-      let h = (run-kept cs first-state s).sound in
-      run_ends LiveSlots record {
-        slot = λ x m.
-            let l = live-range size (slot_count ws) s.size.0 s.size.1 s.slots.0 s.slots.1 cs x m in
-            let z : Spot = l.0 in
-            (z.chunk.slot, stands-slot b h z.chunk.slot z (chunk-slot b h z l.1) l.2 x l.3);
-        range = λ k u n.
-            let f = slot-chunk b h k u in
-            let z : Spot = f.0 in
-            let live : z.chunk.kind ≢ 0 = (λ q. n ((in_words f.2).kind ∙ q)) in
-            let l =
-            live_chunk size (slot_count ws) s.size.0 s.size.1 s.slots.0 s.slots.1 cs z f.1 live in
-            (l.0, l.1, stands-slot b h k z f.2 live l.0 l.2);
-      }
-
-  -- These words are sound, as many as before, and say the same block size.
-  pub words-sound : Sound (run_on cs (begin_on ws size)).words
-  words-sound =
-      let w = ((new-accepted ws size).0 ok).0 in
-      run_sound cs (begin_on ws size) (w.0, w.1, w.2, (new-table ws size ok).1 ∙ w.3) (new-sound ws size ok)
-
-  pub words-length : length (run_on cs (begin_on ws size)).words ≡ length ws
-  words-length = run_length cs (begin_on ws size) ∙ (new-table ws size ok).1
-
-  pub words_size : block_size (run_on cs (begin_on ws size)).words ≡ size
-  words_size =
-      run_ends (λ s. block_size s.words ≡ size)
-      ((encode-head (run cs first-state).block).0 ∙ (run-kept cs first-state (begin-written ws size ok).1).size)

@@ -1,4 +1,6 @@
 // A block's calls at the boundary: its table as a word slice, the value asked for out, 0 on a refusal.
+#![tactic(auto)]
+
 ghost use Rattle.std.specs.Prelude.{◌≡◌};
 ghost use Rattle.opening.specs.Creation.{new_on};
 ghost use Rattle.giving_back.specs.GivingBack.{free_on, rename_on};

@@ -1,2 +1,4 @@
--- The laws that the proofs of `byte_text` share. Assumes nothing.
+-- The laws that the proofs of `byte_text` share, and what is true of its text. Assumes nothing.
 pub mod Parts
+pub mod Dividing
+pub mod ReadBack

@@ -1,5 +1,5 @@
 -- What the functions of `byte_text` write and answer, over plain numbers and lists. Assumes nothing.
-use Prim.Native.Nat.{ℕ, zero, suc, ◌+◌, ◌-◌, ◌/◌, ◌%◌, ◌^◌, ◌≤◌, ◌<◌}
+use Prim.Native.Nat.{ℕ, zero, suc, ◌+◌, ◌-◌, ◌/◌, ◌^◌, ◌≤◌, ◌<◌}
 use mathlib.Core.Path.{◌≡◌, refl, sym, ap, ◌∙◌}
 use mathlib.Core.List.{List, [], ◌∷◌, ◌++◌, append_assoc}
 use native.Mathlib.Omega.{arith}
@@ -12,7 +12,8 @@ use Rattle.laws.specs.Reply.{accepted, refused}
 use Rattle.laws.specs.Splice.{splice, splice-both, splice-sets, splice_front}
 use Rattle.byte_text.specs.declared.Shown.{Shown}
 use Rattle.byte_text.specs.ByteText.{places, suffix, divided, shown, hundredths, text_of, fmt_bytes, fmt_bytes_into}
-use Rattle.byte_text.specs.ByteTextLaws.{divided-goes_on, text_length}
+use Rattle.byte_text.specs.ByteTextLaws.{text_length}
+use Rattle.byte_text.proofs.Dividing.{divided-goes_on}
 
 -- ---- the places
 -- four bytes, one place after another

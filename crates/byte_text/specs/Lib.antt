@@ -2,5 +2,4 @@
 pub mod ByteText
 pub mod ByteTextLaws
 pub mod Reader
-pub mod ReadBack
 pub mod ByteTextExamples

@@ -1,4 +1,6 @@
 // An amount of bytes as text, written into a lent buffer.
+#![tactic(auto)]
+
 ghost use Rattle.std.specs.Prelude.{◌≡◌, ◌∷◌, [], ◌+◌, ◌^◌, ◌<◌, ◌≤◌, length};
 ghost use Rattle.laws.specs.Nearest.{nearest};
 ghost use Rattle.laws.specs.Reply.{number};
@@ -28,7 +30,7 @@ impl Written {
 }
 
 // What is shown: amount / over, in the unit's place among B, KB, MB, GB, TB.
-#[derive(Drop)]
+#[derive(Clone, Copy)]
 pub struct Shown {
     pub amount: u64,
     pub over: u64,
@@ -61,6 +63,7 @@ fn scale(amount: u64) -> Shown
 }
 
 // n / d rounded, a tie to the even number.
+#[tactic(auto, unfolding(laws::specs::Nearest::nearest))]
 fn round(n: u64, d: u64) -> u64
     requires { (0 < d) × (n < 2 ^ 63) × (d < 2 ^ 63) }
     ensures { result ≡ nearest n d }
@@ -77,6 +80,7 @@ fn round(n: u64, d: u64) -> u64
 }
 
 // What is shown, to two places.
+#[tactic(auto, unfolding(crate::specs::ByteText::hundredths))]
 fn hundredths(s: Shown) -> u64
     requires { Bounded s }
     ensures { result ≡ hundredths s }
@@ -85,6 +89,7 @@ fn hundredths(s: Shown) -> u64
 }
 
 // How many letters the unit's name has.
+#[tactic(auto, using(crate::proofs::Parts::one_letter, crate::proofs::Parts::two_letters))]
 fn suffix_len(unit: u64) -> usize
     ensures { result ≡ length (suffix unit) }
 {
@@ -111,6 +116,7 @@ fn put_places(buf: &mut [u8], at: usize, h: u64) -> usize
 }
 
 // The first letter of a unit's name that has two.
+#[tactic(auto, unfolding(crate::specs::ByteText::suffix))]
 fn letter(unit: u64) -> u8
     requires { (0 < unit) × (unit ≤ 4) }
     ensures { suffix unit ≡ result ∷ 66 ∷ [] }

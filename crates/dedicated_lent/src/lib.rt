@@ -1,4 +1,6 @@
 // The calls that write a dedicated block's record, on one that the caller lends: thin, over those by value.
+#![tactic(auto)]
+
 pub mod kept;
 
 ghost use Rattle.std.specs.Prelude.{◌≡◌};

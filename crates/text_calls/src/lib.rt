@@ -1,4 +1,6 @@
 // Byte text at the boundary: a byte slice to write in, the number of bytes written out, 0 on a refusal.
+#![tactic(auto)]
+
 ghost use Rattle.std.specs.Prelude.{◌≡◌};
 ghost use Rattle.byte_text.specs.ByteText.{fmt_bytes_into};
 ghost use Rattle.text_calls.specs.TextCalls.{text_out};
