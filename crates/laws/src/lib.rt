@@ -1,1 +1,2 @@
 // General definitions and lemmas, in specs/ alone: no code.
+#![tactic(auto)]

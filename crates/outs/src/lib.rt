@@ -1,1 +1,2 @@
 // The numbers and words that stand for an answer at the boundary: definitions, no code.
+#![tactic(auto)]
