@@ -1,5 +1,7 @@
 // Whether the calls of a free-list block answer as a recorded line says, on the words of its table. A line with too few or
 // too many fields agrees with nothing, and is no call.
+#![tactic(auto)]
+
 mod checksum;
 
 use crate::checksum::checksum;
