@@ -1,2 +1,3 @@
--- What the proofs of the functions share.
+-- What the proofs of the functions share, and how long a printed line is.
 pub mod Parts
+pub mod PrintedLaws

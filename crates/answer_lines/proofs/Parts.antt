@@ -1,10 +1,6 @@
 -- The parts of a line, stored one after another. Assumes nothing.
-use Prim.Native.Nat.{ℕ, ◌+◌, ◌^◌, ◌≤◌, ◌<◌}
-use mathlib.Core.List.{List, [], ◌∷◌, append_assoc}
-use mathlib.Core.Option.{none, some}
-use mathlib.Core.Path.{◌≡◌}
-use native.Mathlib.Omega.{arith}
-use lib.ListN.{length}
+use Rattle.std.proofs.Common.{ℕ, ◌+◌, ◌^◌, ◌≤◌, ◌<◌, ◌≡◌, List, [], ◌∷◌, append_assoc, arith, length}
+use Rattle.std.proofs.Math.Option.{none, some}
 use Rattle.laws.specs.Decimal.{decimal, decimal-short}
 use Rattle.laws.specs.Splice.{splice}
 use Rattle.model.specs.Lines.{line}

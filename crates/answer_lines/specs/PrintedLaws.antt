@@ -21,12 +21,6 @@ pub field-short : (n end : ℕ) → n < 2 ^ 64 → length (field n end) ≤ 21
 unfolding field
 field-short n end h = rw length-append (omega (arith, decimal-short 19 n (omega arith)))
 
--- A line of such numbers is no longer than the longest, and neither is "?".
-pub printed-short : (number offset id allocated : ℕ) → number < 2 ^ 64 → offset < 2 ^ 64 → id < 2 ^ 64 → allocated < 2 ^ 64 →
-    length (printed (some (line number offset id allocated))) ≤ longest
-printed-short number offset id allocated n o i a =
-    rw printed-fields
-    (simp length-append (omega (arith, field-short number 32 n, field-short offset 32 o, field-short id 32 i, field-short allocated 10 a)))
-
+-- "?" is no longer than the longest line.
 pub unread_short : length (printed none) ≤ longest
 unread_short = omega arith

@@ -1,4 +1,6 @@
 // The line writer of the text program: an answer as a line of bytes.
+#![tactic(auto)]
+
 ghost use Rattle.std.proofs.Math.Option.{some};
 ghost use Rattle.std.specs.Prelude.{◌+◌, ◌≤◌, length};
 ghost use Rattle.model.specs.Lines.{line};
