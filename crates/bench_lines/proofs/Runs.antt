@@ -1,14 +1,9 @@
 -- How a text is read on, byte by byte. Assumes nothing.
-use Prim.Native.Nat.{ℕ, suc, ◌+◌, ◌≤◌, ◌<◌}
-use native.Mathlib.Omega.{arith}
-use mathlib.Core.Bool.{true, false}
-use mathlib.Core.List.{List, [], ◌∷◌}
-use mathlib.Core.Path.{◌≡◌, refl, sym, ap, ◌∙◌}
-use lib.ListN.{length, drop, get_or, drop_of_length-le}
-use lib.Seq.{drop-cons}
+use Rattle.std.proofs.Common.{ℕ, suc, ◌+◌, ◌≤◌, ◌<◌, arith, true, false, List, [], ◌∷◌, ◌≡◌, refl, sym, ap, ◌∙◌, length, drop, get_or, drop_of_length-le, drop-cons}
 use Rattle.table.specs.Layout.{most_words}
-use Rattle.bench_lines.specs.Fed.{next_fits}
-use Rattle.bench_lines.specs.Fits.{fitting, taken-stays}
+use Rattle.bench_lines.proofs.FedLaws.{next_fits}
+use Rattle.bench_lines.specs.Fits.{fitting}
+use Rattle.bench_lines.proofs.Fits.{taken-stays}
 use Rattle.bench_lines.specs.Feeding.{Kept, FedKept, emptied, fits, has_room, taken_on, stopped, fed_from, feed_on}
 use Rattle.bench_lines.specs.declared.Bench.{Bench}
 

@@ -3,14 +3,14 @@
 -- the definitions
 pub mod Text
 pub mod Feeding
--- what is fed in byte by byte prints what the lines print
+-- what is printed byte by byte, and what a call reads, prints and keeps
 pub mod Told
 pub mod Fed
--- and so does what any calls feed in, one after the other
+-- any calls, one after the other
 pub mod Pieces
 -- literal texts
 pub mod TextExamples
 -- literal pieces of a text, in little room
 pub mod FeedingExamples
--- on the way: a store that is long enough stays so
+-- on the way: a store that is long enough
 pub mod Fits

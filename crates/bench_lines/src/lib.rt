@@ -1,4 +1,6 @@
 // The text program between reading and writing: a text is fed in, piece by piece, and what it prints is put into a buffer.
+#![tactic(auto)]
+
 ghost use Rattle.std.specs.Prelude.{◌≡◌, ◌≤◌, length};
 ghost use Rattle.bench_lines.specs.Feeding.{begin, emptied, is_begun, fits, has_room, ended_on, taken_on, feed_on, Ready};
 
@@ -10,7 +12,7 @@ use table::layout;
 
 // What is kept between two bytes, but for the store: the line so far, how many words of the store the block at hand has, and
 // how many bytes of the buffer are written.
-#[derive(Drop)]
+#[derive(Clone, Copy)]
 pub struct Bench {
     pub line: Line,
     pub lent: usize,
@@ -53,6 +55,7 @@ impl Bench {
     }
 
     // Whether the store is long enough for every table, and for the one at hand.
+    #[tactic(auto, unfolding(crate::specs::Feeding::fits, laws::specs::Every::every))]
     fn fits(self, store: &[u64]) -> bool
         ensures { result ≡ fits self store.now }
     {
@@ -63,6 +66,7 @@ impl Bench {
     }
 
     // Whether the buffer has room for one more answer.
+    #[tactic(auto, unfolding(crate::specs::Feeding::has_room))]
     fn has_room(self, out: &[u8]) -> bool
         ensures { result ≡ has_room self out.now }
     {
@@ -89,6 +93,7 @@ impl Bench {
     }
 
     // One byte more.
+    #[tactic(auto, unfolding(crate::specs::Feeding::taken_on))]
     fn taken(self, byte: u8, store: &mut [u64], out: &mut [u8]) -> Bench
         requires { Ready self store.old out.old }
         ensures { (result, store.new, out.new) ≡ taken_on self byte store.old out.old }

@@ -1,8 +1,6 @@
 -- What a call answers as a line, and the fault of the words after it. Assumes nothing.
-use Prim.Native.Nat.{ℕ}
-use mathlib.Core.List.{List}
-use mathlib.Core.Option.{some}
-use mathlib.Core.Path.{◌≡◌, sym, ap, ◌∙◌}
+use Rattle.std.proofs.Common.{ℕ, List, ◌≡◌, sym, ap, ◌∙◌}
+use Rattle.std.proofs.Math.Option.{some}
 use Rattle.laws.specs.Reply.{Reply, accepted, refused, number}
 use Rattle.model.specs.Lines.{line}
 use Rattle.model.specs.Placing.{Request}

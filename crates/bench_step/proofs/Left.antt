@@ -1,10 +1,6 @@
 -- What the number of a call tells of the words that it leaves. Assumes nothing.
-use Prim.Native.Nat.{ℕ}
-use native.Mathlib.Omega.{arith}
-use mathlib.Core.List.{List}
-use mathlib.Core.Logic.{◌↔◌, ◌≢◌, ⊎_elim}
-use mathlib.Core.Path.{◌≡◌, refl, sym, ap, ◌∙◌}
-use borrow.Author.Tests.{ne_eqb}
+use Rattle.std.proofs.Common.{ℕ, arith, List, ⊎_elim, ◌≡◌, refl, sym, ap, ◌∙◌, ne_eqb}
+use Rattle.std.specs.Prelude.{◌↔◌, ◌≢◌}
 use Rattle.laws.specs.Every.{cases}
 use Rattle.laws.specs.Reply.{Reply, accepted, refused, number}
 use Rattle.model.specs.Block.{allocated}

@@ -2,3 +2,4 @@
 pub mod Left
 pub mod Answers
 pub mod Steps
+pub mod Kept

@@ -1,14 +1,8 @@
 -- What each way through a step answers, and the store that it leaves. Assumes nothing.
-use Prim.Native.Nat.{ℕ, ◌≤◌}
-use native.Mathlib.Omega.{arith}
-use mathlib.Core.Bool.{true, false}
-use mathlib.Core.List.{List, [], ◌++◌}
-use mathlib.Core.Logic.{◌≢◌}
-use mathlib.Core.Option.{Option, none, some}
-use mathlib.Core.Path.{◌≡◌, refl, sym, ap, ◌∙◌}
-use borrow.Author.Tests.{eq-eqb, ne_eqb}
-use lib.ListN.{length, take, drop, replicate, length-replicate, take-append-drop}
-use lib.Seq.{length-take-le}
+use Rattle.std.proofs.Common.{ℕ, ◌≤◌, arith, true, false, List, [], ◌++◌, ◌≡◌, refl, sym, ap, ◌∙◌, eq-eqb, ne_eqb, length, take, drop, replicate, take-append-drop, length-take-le}
+use Rattle.std.proofs.Math.Option.{Option, none, some}
+use Rattle.std.proofs.lemmas.List.{length-replicate}
+use Rattle.std.specs.Prelude.{◌≢◌}
 use Rattle.laws.specs.Reply.{Reply, accepted, refused, number, not_refused}
 use Rattle.laws.specs.Splice.{splice, splice_front, splice-none}
 use Rattle.model.specs.Lines.{Line, line}
@@ -18,7 +12,7 @@ use Rattle.words.specs.Checks.{up_to}
 use Rattle.opening.specs.Creation.{new_on}
 use Rattle.opening.proofs.Exactly.{new-cases}
 use Rattle.opening.proofs.NewBlock.{new-table, new_blind}
-use Rattle.bench_step.specs.Kept.{slots_most, after-length}
+use Rattle.bench_step.proofs.Kept.{slots_most, after-length}
 use Rattle.bench_step.specs.Step.{Outcome, opened, stored, line_after, new_answered, call_answered}
 
 module _ (store : List ℕ) (lent : ℕ) (h : lent ≤ length store) where

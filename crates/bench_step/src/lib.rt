@@ -1,4 +1,6 @@
 // The step of the text program: what a line asks for is done on the block at hand, in the first words of a store.
+#![tactic(auto)]
+
 ghost use Rattle.std.specs.Prelude.{◌≡◌, ◌≤◌, length, take};
 ghost use Rattle.model.specs.Runs.Call.{allocate, free as freeCall};
 ghost use Rattle.table.specs.Layout.{most_words};

@@ -13,11 +13,11 @@ pub record Resource : Type 0 where
 abbrev pub end : Resource → ℕ
 end A = A.offset + A.size - 1
 
--- resourceA.end_page = resourceA.end & ~(bufferImageGranularity - 1)
+-- resourceA.endPage = resourceA.end & ~(bufferImageGranularity - 1)
 abbrev pub end_page : ℕ → Resource → ℕ
 end_page granularity A = mask (end A) granularity
 
--- resourceB.start_page = resourceB.memoryOffset & ~(bufferImageGranularity - 1)
+-- resourceB.startPage = resourceB.memoryOffset & ~(bufferImageGranularity - 1)
 abbrev pub start_page : ℕ → Resource → ℕ
 start_page granularity B = mask B.offset granularity
 

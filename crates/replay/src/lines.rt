@@ -4,7 +4,7 @@ use recorded_blocks;
 use recorded_blocks::Outcome;
 use recorded_pages;
 
-#[derive(Drop)]
+#[derive(Clone, Copy)]
 pub struct Lines {
     // The numbers of the present line, and the place of the one that is being read.
     pub fields: [u64; 11],

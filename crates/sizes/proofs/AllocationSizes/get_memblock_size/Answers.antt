@@ -1,7 +1,7 @@
 -- `sizes::AllocationSizes::get_memblock_size` meets its contract. Assumes nothing.
 use Rattle.std.proofs.Common.{rules}
 use Rattle.size_ranges.specs.RangeLaws.{range-tested}
-use Rattle.sizes.specs.Reach.{told}
+use Rattle.sizes.proofs.Reach.{told}
 use Rattle.sizes.proofs.AllocationSizes.get_memblock_size.Goals as goal
 
 pub grow-requires : goal.grow-requires

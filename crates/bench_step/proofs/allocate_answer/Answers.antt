@@ -1,0 +1,6 @@
+-- `bench_step::allocate_answer` meets its contract. Assumes nothing.
+use Rattle.bench_step.proofs.Answers.{allocate-fault}
+use Rattle.bench_step.proofs.allocate_answer.Goals as goal
+
+pub total_after-allocated-requires : goal.total_after-allocated-requires
+total_after-allocated-requires c = allocate-fault _ _ _ _ c.allocate-answer.ensures _ c.number-number.ensures

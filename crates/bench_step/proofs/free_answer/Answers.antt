@@ -1,0 +1,6 @@
+-- `bench_step::free_answer` meets its contract. Assumes nothing.
+use Rattle.bench_step.proofs.Answers.{free-fault}
+use Rattle.bench_step.proofs.free_answer.Goals as goal
+
+pub total_after-allocated-requires : goal.total_after-allocated-requires
+total_after-allocated-requires c = free-fault _ _ _ _ c.free.ensures _ c.number-number.ensures
