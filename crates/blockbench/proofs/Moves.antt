@@ -1,22 +1,17 @@
 -- What each way through a move keeps. Assumes nothing.
-use Prim.Native.Nat.{ℕ, ◌+◌, ◌-◌, ◌≤◌, ◌<◌}
-use native.Mathlib.Omega.{arith}
-use mathlib.Core.Bool.{Bool, true, false, true≢false, false≢true}
-use mathlib.Core.List.{List, [], ◌∷◌}
-use mathlib.Core.Logic.{◌≢◌}
-use mathlib.Core.Path.{◌≡◌, refl, sym, ap, ◌∙◌}
-use lib.ListN.{length, take, drop, length-drop}
-use lib.Seq.{take-add, take_all}
+use Rattle.std.proofs.Common.{ℕ, ◌+◌, ◌-◌, ◌≤◌, ◌<◌, arith, Bool, true, false, true≢false, List, ◌≡◌, refl, sym, ap, ◌∙◌, length, take, drop, length-drop, take-add}
+use Rattle.std.proofs.lemmas.Bool.{false≢true}
 use Rattle.laws.specs.Every.{clash}
 use Rattle.table.specs.Layout.{most_words}
 use Rattle.answer_lines.specs.Printed.{longest}
-use Rattle.bench_lines.specs.Fed.{Feeds, state_of, feeds}
-use Rattle.bench_lines.specs.Feeding.{begin, is_begun, fits, feed_on}
+use Rattle.bench_lines.specs.Fed.{Feeds, state_of}
+use Rattle.bench_lines.proofs.FedLaws.{feeds}
+use Rattle.bench_lines.specs.Feeding.{begin, fits, feed_on}
 use Rattle.bench_lines.specs.Fits.{fitting, fit}
 use Rattle.bench_lines.specs.Told.{State, after_all, after-pieces}
 use Rattle.bench_lines.specs.declared.Bench.{Bench}
 use Rattle.bench_lines.specs.declared.Fed.{Fed}
-use Rattle.blockbench.specs.Moving.{MovesSome, MovesAll, MovesGot, MovesLast, stopped}
+use Rattle.blockbench.specs.Moving.{MovesSome, MovesGot, stopped}
 use Rattle.blockbench.specs.declared.Moved.{Moved}
 
 -- With no block at hand a store is long enough that has room for every table.
@@ -43,7 +38,7 @@ module _ (text : List ℕ) (from : ℕ) (s : Bench) (store out : List ℕ) (f : 
   bytes = omega (arith, fed.read)
 
   -- What it prints is written.
-  pub written : MovesSome text from s store (record { bench = r.bench; read = r.read; goes_on_lem = true }) store'
+  pub written : MovesSome text from s store (record { bench = r.bench; read = r.read; goes_on = true }) store'
   written = record {
     moves = moves;
     most = most;
@@ -53,7 +48,7 @@ module _ (text : List ℕ) (from : ℕ) (s : Bench) (store out : List ℕ) (f : 
   }
 
   -- It cannot be written.
-  pub unwritten : (b : Bench) → b ≡ begin → MovesSome text from s store (record { bench = b; read = r.read; goes_on_lem = false }) store'
+  pub unwritten : (b : Bench) → b ≡ begin → MovesSome text from s store (record { bench = b; read = r.read; goes_on = false }) store'
   unwritten b q = record {
     moves = moves;
     most = most;
@@ -67,19 +62,19 @@ module _ (text : List ℕ) (from : ℕ) (s : Bench) (store out : List ℕ) (f : 
 -- what the loop keeps: what is kept is what the bytes read leave
 pub record Going (text : List ℕ) (s : Bench) (store : List ℕ) (m : Moved) (store' : List ℕ) : Type 0 where
   pub most : m.read ≤ length text
-  pub keeps : m.goes_on_lem ≡ true → state_of m.bench store' ≡ after_all (state_of s store) (take m.read text)
-  pub drops : m.goes_on_lem ≡ false → m.bench ≡ begin
+  pub keeps : m.goes_on ≡ true → state_of m.bench store' ≡ after_all (state_of s store) (take m.read text)
+  pub drops : m.goes_on ≡ false → m.bench ≡ begin
   pub long : fits m.bench store' ≡ true
   pub stays : length store' ≡ length store
 
 pub begins : (text : List ℕ) (s : Bench) (store : List ℕ) → fits s store ≡ true
-    → Going text s store (record { bench = s; read = 0; goes_on_lem = true }) store
+    → Going text s store (record { bench = s; read = 0; goes_on = true }) store
 unfolding after_all
 begins text s store f =
     record { most = omega arith; keeps = λ g. refl; drops = λ g. absurd (true≢false g); long = f; stays = refl }
 
 module _ (text : List ℕ) (s : Bench) (store : List ℕ) (m : Moved) (store' : List ℕ) (g : Going text s store m store') where
-  pub turn : m.goes_on_lem ≡ true → m.read < length text → (r : Moved) (store'' : List ℕ)
+  pub turn : m.goes_on ≡ true → m.read < length text → (r : Moved) (store'' : List ℕ)
       → MovesSome text m.read m.bench store' r store'' → length store'' ≡ length store' → Going text s store r store''
   turn on h r store'' p l =
       let n : ℕ = r.read - m.read in
@@ -96,29 +91,6 @@ module _ (text : List ℕ) (s : Bench) (store : List ℕ) (m : Moved) (store' : 
         stays = l ∙ g.stays;
       }
 
-  -- The answers could not be written.
-  pub gives_up : m.goes_on_lem ≡ false → MovesAll text s store m store'
-  gives_up off = record {
-    read = λ e. absurd (clash e off);
-    keeps = λ e. absurd (clash e off);
-    drops = g.drops;
-    long = g.long;
-  }
-
-  -- The piece is read.
-  pub whole : length text ≤ m.read → MovesAll text s store m store'
-  whole h = record {
-    read = λ e. omega (arith, g.most);
-    keeps = λ e. g.keeps e ∙ ap (after_all (state_of s store)) (take_all m.read text h);
-    drops = g.drops;
-    long = g.long;
-  }
-
--- With each turn fewer bytes are left.
-pub falls : (text : List ℕ) (from : ℕ) (s : Bench) (store : List ℕ) (r : Moved) (store' : List ℕ)
-    → MovesSome text from s store r store' → from < length text → length text - r.read < length text - from
-falls text from s store r store' p h = omega (arith, p.moves h)
-
 -- ---- a read
 
 module _ (failed : Bool) (text : List ℕ) (s : Bench) (store : List ℕ) where
@@ -130,30 +102,3 @@ module _ (failed : Bool) (text : List ℕ) (s : Bench) (store : List ℕ) where
     brings = λ t l. absurd (clash e t);
     long = begin-fits r.bench store (ap (λ (m : Moved). m.bench) q ∙ n) (fitting s store f).0;
   }
-
-  pub input-ends : failed ≡ false → length text ≡ 0 → fits s store ≡ true → (r : Moved) → r ≡ stopped s
-      → MovesGot failed text s store r store
-  input-ends e n f r q = record {
-    fails = λ t. absurd (clash t e);
-    ends = λ t l. (q, refl);
-    brings = λ t l. absurd (omega arith);
-    long = rw q f;
-  }
-
-  pub read-brings : failed ≡ false → length text ≢ 0 → (r : Moved) (store' : List ℕ) → MovesAll text s store r store'
-      → MovesGot failed text s store r store'
-  read-brings e n r store' p = record {
-    fails = λ t. absurd (clash t e);
-    ends = λ t l. absurd (n l);
-    brings = λ t l. p;
-    long = p.long;
-  }
-
--- ---- the last line
-
-module _ (s : Bench) (store : List ℕ) (r : Moved) where
-  pub line-ended : (store' : List ℕ) → is_begun s ≡ true → MovesAll (10 ∷ []) s store r store' → MovesLast s store r store'
-  line-ended store' e p = record { ends = λ b. p; stays = λ b. absurd (clash e b) }
-
-  pub no_line : is_begun s ≡ false → r ≡ stopped s → MovesLast s store r store
-  no_line e q = record { ends = λ b. absurd (clash b e); stays = λ b. (q, refl) }

@@ -11,20 +11,20 @@ use Rattle.blockbench.specs.declared.Moved.{Moved}
 pub record MovesSome (text : List ℕ) (from : ℕ) (s : Bench) (store : List ℕ) (r : Moved) (after : List ℕ) : Type 0 where
   pub moves : from < length text → from < r.read
   pub most : from ≤ length text → r.read ≤ length text
-  pub keeps : r.goes_on_lem ≡ true → state_of r.bench after ≡ after_all (state_of s store) (take (r.read - from) (drop from text))
-  pub drops : r.goes_on_lem ≡ false → r.bench ≡ begin
+  pub keeps : r.goes_on ≡ true → state_of r.bench after ≡ after_all (state_of s store) (take (r.read - from) (drop from text))
+  pub drops : r.goes_on ≡ false → r.bench ≡ begin
   pub long : fits r.bench after ≡ true
 
 -- All of it is read, unless the answers cannot be written.
 pub record MovesAll (text : List ℕ) (s : Bench) (store : List ℕ) (r : Moved) (after : List ℕ) : Type 0 where
-  pub read : r.goes_on_lem ≡ true → r.read ≡ length text
-  pub keeps : r.goes_on_lem ≡ true → state_of r.bench after ≡ after_all (state_of s store) text
-  pub drops : r.goes_on_lem ≡ false → r.bench ≡ begin
+  pub read : r.goes_on ≡ true → r.read ≡ length text
+  pub keeps : r.goes_on ≡ true → state_of r.bench after ≡ after_all (state_of s store) text
+  pub drops : r.goes_on ≡ false → r.bench ≡ begin
   pub long : fits r.bench after ≡ true
 
 -- nothing is read, and there is nothing more to do
 abbrev pub stopped : Bench → Moved
-stopped s = record { bench = s; read = 0; goes_on_lem = false }
+stopped s = record { bench = s; read = 0; goes_on = false }
 
 -- After a failed read there is no line begun, and no block. At the end of the input what is kept stays. Any other read brings a piece.
 pub record MovesGot (failed : Bool) (text : List ℕ) (s : Bench) (store : List ℕ) (r : Moved) (after : List ℕ) : Type 0 where

@@ -1,4 +1,6 @@
 // Reads lines of calls from standard input, and writes a line for each to standard output.
+#![tactic(auto)]
+
 ghost use Rattle.std.specs.Prelude.{true, ◌≡◌, ◌≤◌, length};
 ghost use Rattle.table.specs.Layout.{most_words};
 ghost use Rattle.bench_lines.specs.Feeding.{fits};
@@ -6,8 +8,11 @@ ghost use Rattle.blockbench.specs.Moving.{stopped, MovesSome, MovesAll, MovesGot
 
 use bench_lines;
 use bench_lines::Bench;
-use libc::{STDERR_FILENO, STDIN_FILENO, STDOUT_FILENO};
+use std::io::{Print, Read};
 use table::layout;
+
+// How many bytes a read or a write moves at most.
+const LARGE: usize = 65536;
 
 // What is kept from one piece of the text to the next, how much of the piece was read, and whether there may be more to do.
 #[derive(Drop)]
@@ -29,18 +34,17 @@ fn stopped(bench: Bench) -> Moved
 }
 
 // Reads on in a piece, and writes out what that prints. Where that cannot be, there is no text any more, and no line begun.
-fn move_some(text: &[u8], from: usize, begun: Bench, store: &mut [u64]) -> Moved
+fn move_some(rt: &HostRuntime, text: &[u8], from: usize, begun: Bench, store: &mut [u64]) -> Moved
     requires { fits begun store.old ≡ true }
     ensures { MovesSome text.now from begun store.old result store.new }
 {
-    let mut out = io::large_buffer();
+    let mut out: [u8; LARGE] = [0; LARGE];
     let fed = bench_lines::feed(text, from, begun, store, &mut out);
     let bench = fed.bench;
-    if !io::write_all(STDOUT_FILENO, &out[..bench.used]) {
-        io::write_all(
-            STDERR_FILENO,
-            b"blockbench: the answers cannot be written\n",
-        );
+    if rt.stdout().write_all(&out[..bench.used]).is_err() {
+        let _ = rt
+            .stderr()
+            .write_all(b"blockbench: the answers cannot be written\n");
         return Moved {
             bench: Bench::new(),
             read: fed.read,
@@ -55,7 +59,7 @@ fn move_some(text: &[u8], from: usize, begun: Bench, store: &mut [u64]) -> Moved
 }
 
 // All of a piece: each turn reads a byte at least, since an empty buffer has room for an answer.
-fn move_all(text: &[u8], begun: Bench, store: &mut [u64]) -> Moved
+fn move_all(rt: &HostRuntime, text: &[u8], begun: Bench, store: &mut [u64]) -> Moved
     requires { fits begun store.old ≡ true }
     ensures { MovesAll text.now begun store.old result store.new }
 {
@@ -65,39 +69,42 @@ fn move_all(text: &[u8], begun: Bench, store: &mut [u64]) -> Moved
         goes_on: true,
     };
     while moved.goes_on && moved.read < text.len() {
-        moved = move_some(text, moved.read, moved.bench, store);
+        moved = move_some(rt, text, moved.read, moved.bench, store);
     }
     moved
 }
 
 // What a read brought: a line that was begun before it failed is not answered, and one that the input ends in is kept.
-fn move_got(failed: bool, text: &[u8], begun: Bench, store: &mut [u64]) -> Moved
+fn move_got(rt: &HostRuntime, failed: bool, text: &[u8], begun: Bench, store: &mut [u64]) -> Moved
     requires { fits begun store.old ≡ true }
     ensures { MovesGot failed text.now begun store.old result store.new }
 {
     if failed {
-        io::write_all(STDERR_FILENO, b"blockbench: the input cannot be read\n");
+        let _ = rt
+            .stderr()
+            .write_all(b"blockbench: the input cannot be read\n");
         return stopped(Bench::new());
     }
     if text.len() == 0 {
         return stopped(begun);
     }
-    move_all(text, begun, store)
+    move_all(rt, text, begun, store)
 }
 
 // One read, and what it brings.
-fn move_read(begun: Bench, store: &mut [u64]) -> Moved
+fn move_read(rt: &HostRuntime, begun: Bench, store: &mut [u64]) -> Moved
     requires { fits begun store.old ≡ true }
     ensures { fits result.bench store.new ≡ true }
 {
-    let mut space = io::large_buffer();
-    let got = libc::read(STDIN_FILENO, &mut space);
-    let length = io::count(got, &space);
-    move_got(got < 0, &space[..length], begun, store)
+    let mut space: [u8; LARGE] = [0; LARGE];
+    match rt.stdin().read(&mut space) {
+        Ok(length) => move_got(rt, false, &space[..length], begun, store),
+        Err(_) => move_got(rt, true, &space[..0], begun, store),
+    }
 }
 
 // A proved loop has to end, and nothing says that the input does: it counts down, from a number that no run uses up.
-fn move_input(store: &mut [u64]) -> Bench
+fn move_input(rt: &HostRuntime, store: &mut [u64]) -> Bench
     requires { most_words ≤ length store.old }
     ensures { fits result store.new ≡ true }
 {
@@ -108,25 +115,25 @@ fn move_input(store: &mut [u64]) -> Bench
     };
     let mut turns = u64::MAX;
     while turns > 0 && moved.goes_on {
-        moved = move_read(moved.bench, store);
+        moved = move_read(rt, moved.bench, store);
         turns -= 1;
     }
     moved.bench
 }
 
 // A last line that has a byte needs no line feed.
-fn move_last(begun: Bench, store: &mut [u64]) -> Moved
+fn move_last(rt: &HostRuntime, begun: Bench, store: &mut [u64]) -> Moved
     requires { fits begun store.old ≡ true }
     ensures { MovesLast begun store.old result store.new }
 {
     if begun.is_begun() {
-        return move_all(b"\n", begun, store);
+        return move_all(rt, b"\n", begun, store);
     }
     stopped(begun)
 }
 
-fn main() {
+fn main(rt: HostRuntime) {
     let mut store: [u64; layout::MOST_WORDS] = [0; layout::MOST_WORDS];
-    let bench = move_input(&mut store);
-    move_last(bench, &mut store);
+    let bench = move_input(&rt, &mut store);
+    move_last(&rt, bench, &mut store);
 }

@@ -1,0 +1,7 @@
+-- `blockbench::move_input` meets its contract. Assumes nothing.
+use Rattle.std.proofs.Common.{refl}
+use Rattle.blockbench.proofs.Moves.{begin-fits}
+use Rattle.blockbench.proofs.move_input.Goals as goal
+
+pub loop-turns-init : goal.loop-turns-init
+loop-turns-init c = (begin-fits _ _ c.new.ensures c.requires, refl)
