@@ -17,14 +17,10 @@ use Rattle.model.specs.Requests.{Words, WellFormed}
 use Rattle.model.proofs.Requests.{no_fault_words, fault-range, fault-size, fault-alignment, fault-granularity, fault-kind}
 use Rattle.sub_allocator.specs.Answers.{Given}
 use Rattle.dedicated.specs.Dedicated.{is_sound, block, new_block, request_fault, id_fault, writes, allocate_in, free_in, rename_in, asks, allocated_in, is_empty_in, report_of}
+use Rattle.dedicated.specs.Exactly.{Sound}
 use Rattle.dedicated.specs.declared.record.DedicatedBlock.{DedicatedBlock}
 
 -- ---- soundness
-
--- the size is at least 1, and allocated is 0 or the size
-pub record Sound (d : DedicatedBlock) : Type 0 where
-  pub size : 1 ≤ d.size
-  pub allocated : (d.allocated ≡ 0) ⊎ (d.allocated ≡ d.size)
 
 either : (s t : Bool) → (s || t) ≡ true → (s ≡ true) ⊎ (t ≡ true)
 either true t e = inl refl

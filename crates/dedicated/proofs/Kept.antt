@@ -6,7 +6,8 @@ use Rattle.std.proofs.Math.Path.{refl}
 use Rattle.laws.specs.Reply.{Reply}
 use Rattle.model.specs.Placing.{Request}
 use Rattle.dedicated.specs.Dedicated.{allocate_in, free_in, rename_in}
-use Rattle.dedicated.proofs.Exactly.{Sound, allocate-cases, id-cases}
+use Rattle.dedicated.specs.Exactly.{Sound}
+use Rattle.dedicated.proofs.Exactly.{allocate-cases, id-cases}
 use Rattle.dedicated.specs.declared.record.DedicatedBlock.{DedicatedBlock}
 
 module _ (d : DedicatedBlock) (s : Sound d) where
