@@ -190,6 +190,8 @@ fn statements(number: usize, run: &[Step]) -> String {
     let lines = list(run.iter().map(Line), "    ");
     let chunks = list(last.after.chunks.iter().map(InWords), "      ");
     let (count, next_id) = (run.len(), last.after.next_id);
+    // as the statements were respelled: the first six have names that the kit's library has too, and took its spelling
+    let block = format!("block{}{number}", if number <= 6 { '_' } else { '-' });
     format!(
         "
 abbrev calls_{number} : List Call
@@ -204,7 +206,7 @@ unfolding lines
 answers-{number} = refl
 
 -- And the block after them.
-pub block_{number} : (run calls_{number} {start}).block ≡ record {{
+pub {block} : (run calls_{number} {start}).block ≡ record {{
   size = {size};
   next = {next_id};
   slots = {slots};
@@ -212,7 +214,7 @@ pub block_{number} : (run calls_{number} {start}).block ≡ record {{
       {chunks};
 }}
 unfolding lines
-block_{number} = refl
+{block} = refl
 "
     )
 }
