@@ -37,6 +37,10 @@ abbrev pub id_out : Reply Given → ℕ
 id_out (accepted g) = g.id
 id_out (refused n) = 0
 
--- the number given back, both values, and the words after the call
+-- the number given back, and both values
+abbrev pub placement_out : Reply Given → ℕ × ℕ × ℕ
+placement_out answer = (number answer, offset_out answer, id_out answer)
+
+-- the same, and the words after the call
 abbrev pub placed_out : Reply Given × List ℕ → ℕ × ℕ × ℕ × List ℕ
 placed_out answer = (number answer.0, offset_out answer.0, id_out answer.0, answer.1)

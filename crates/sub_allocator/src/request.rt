@@ -1,11 +1,14 @@
 // What a block is asked for, and the first fault of it.
-ghost use Rattle.std.specs.Prelude.{◌≡◌};
+ghost use Rattle.std.specs.Prelude.{◌≡◌, IfOk};
 ghost use Rattle.model.specs.Placing.{fault};
+ghost use Rattle.refusals.specs.Refusals.{fault_of};
 ghost use Rattle.sub_allocator.specs.Requests.{request_of};
 
 use pages;
+use refusals::Refusal;
 
-#[derive(Clone, Copy)]
+// The kind is a number, since callers may pass any.
+#[derive(Clone, Copy, Debug, PartialEq, Eq)]
 pub struct Request {
     pub size: u64,
     pub alignment: u64,
@@ -14,27 +17,32 @@ pub struct Request {
     pub label: u64,
 }
 
+// A request that has no fault.
+#[derive(Clone, Copy)]
+pub struct WellFormed {
+    pub request: Request,
+    ghost well_formed: { fault (request_of request) ≡ 0 },
+}
+
 impl Request {
-    // The number of the first fault, 0 where the request is well formed.
+    // The first fault, if there is one.
     #[tactic(auto, unfolding(model::specs::Placing::fault))]
-    pub fn fault(self) -> u64
-        ensures { result ≡ fault (request_of self) }
+    pub fn checked(self) -> Result<WellFormed, Refusal>
+        ensures fault { fault_of result ≡ fault (request_of self) }
+        ensures same { IfOk result (λ r. r.request ≡ self) }
     {
         if self.size == 0 {
-            return 3;
+            return Err(Refusal::ZeroSize);
         }
         if !pages::is_power_of_two(self.alignment) {
-            return 4;
+            return Err(Refusal::Alignment);
         }
         if !pages::is_power_of_two(self.granularity) {
-            return 5;
+            return Err(Refusal::Granularity);
         }
-        if self.kind == 1 {
-            return 0;
+        if self.kind != 1 && self.kind != 2 {
+            return Err(Refusal::Kind);
         }
-        if self.kind == 2 {
-            return 0;
-        }
-        6
+        Ok(WellFormed { request: self })
     }
 }

@@ -1,2 +1,3 @@
 -- The chunk table as words: where they stand.
 pub mod Layout
+pub mod Named

@@ -3,3 +3,4 @@
 
 pub mod fresh;
 pub mod ranges;
+pub mod sound;

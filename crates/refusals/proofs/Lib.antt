@@ -1,0 +1,2 @@
+-- What is true of the refusals' numbers and of answers.
+pub mod Refusals

@@ -1,0 +1,2 @@
+-- Why calls are refused, by the paper's numbers.
+pub mod Refusals
