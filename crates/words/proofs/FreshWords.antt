@@ -1,22 +1,13 @@
 -- Words that are all 0 but for those of a fresh table. Assumes nothing.
 use Prim.Native.Nat.{ℕ, zero, suc, ◌*◌, ◌≤◌}
 use native.Mathlib.Omega.{arith}
-use mathlib.Core.List.{List, [], ◌∷◌, ◌++◌, append-nil}
-use mathlib.Core.Path.{◌≡◌, refl, ap, ◌∙◌}
+use mathlib.Core.List.{[], ◌∷◌}
+use mathlib.Core.Path.{◌≡◌, refl}
 use borrow.Author.Tests.{ne_eqb}
-use lib.ListN.{length, drop, set, replicate}
-use lib.Seq.{drop-length}
+use lib.ListN.{set, replicate}
 use Rattle.model.specs.Block.{Chunk, fresh}
 use Rattle.table.specs.Layout.{word_count, at}
 use Rattle.words.specs.Words.{encode, rows, row_at}
-
--- Filled to the end, every word is 0.
-pub filled : (w₀ w : List ℕ) (i : ℕ) → w ≡ replicate i 0 ++ drop i w₀ → i ≡ length w₀ → w ≡ replicate (length w₀) 0
-filled w₀ w i e n =
-    e ∙ ap (λ (j : ℕ). replicate j 0 ++ drop j w₀) n ∙ ap (λ (l : List ℕ). replicate (length w₀) 0 ++ l) (drop-length w₀)
-    ∙ append-nil (replicate (length w₀) 0)
-
--- ---- `write_fresh`
 
 -- the one chunk of a fresh table
 whole : ℕ → Chunk

@@ -12,5 +12,4 @@ pub mod Keeping
 pub mod Passed
 pub mod Spots
 -- for the functions
-pub mod Ways
 pub mod FreshWords
