@@ -1,29 +1,24 @@
 // What a block is asked without changing it: the bytes allocated, and whether there are any.
 ghost use Rattle.std.specs.Prelude.{◌≡◌};
-ghost use Rattle.laws.specs.Reply.{number};
+ghost use Rattle.refusals.specs.Refusals.{reply};
 ghost use Rattle.opening.specs.Questions.{allocated_on, is_empty_on};
-ghost use Rattle.sub_allocator.specs.Answers.{reply_total, reply_is_empty};
 
 use crate::look;
-use sub_allocator::answers::{IsEmpty, Total};
+use refusals::Refusal;
 use table::layout;
+use table::layout::HeadField;
 
-pub fn allocated(words: &[u64]) -> Total
-    ensures { reply_total result ≡ allocated_on words.now }
+#[tactic(auto, using(crate::proofs::Asked::not_looked, crate::proofs::Asked::the_total, crate::proofs::Asked::has_head))]
+pub fn allocated(words: &[u64]) -> Result<u64, Refusal>
+    ensures { reply result ≡ allocated_on words.now }
 {
-    let unfit = look::table_fault(words);
-    if unfit != 0 {
-        return Total::Refused(unfit);
-    }
-    Total::Bytes(layout::allocated(words))
+    let table = look::sound_table(words)?;
+    Ok(layout::head(table.words, HeadField::Allocated))
 }
 
-pub fn is_empty(words: &[u64]) -> IsEmpty
-    ensures { reply_is_empty result ≡ is_empty_on words.now }
+#[tactic(auto, using(crate::proofs::Asked::empty_refused, crate::proofs::Asked::empty_told))]
+pub fn is_empty(words: &[u64]) -> Result<bool, Refusal>
+    ensures { reply result ≡ is_empty_on words.now }
 {
-    let answer = allocated(words);
-    let Total::Bytes(bytes) = answer else {
-        return IsEmpty::Refused(answer.number());
-    };
-    IsEmpty::Answer(bytes == 0)
+    Ok(allocated(words)? == 0)
 }
