@@ -7,10 +7,11 @@ ghost use Rattle.words.specs.Words.{encode, block_of};
 ghost use Rattle.chunks.specs.Steps.{relabelled};
 
 use stores;
+use table::layout::Field;
 
 pub fn relabel(w: &mut [u64], k: u64, label: u64)
     requires { Slot w.old k }
     ensures { (z : Spot) → InSlot w.old k z → w.new ≡ encode (relabelled label z (block_of w.old)) }
 {
-    stores::set_label(w, k, label);
+    stores::set_word(w, k, Field::Label, label);
 }
