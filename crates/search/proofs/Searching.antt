@@ -2,6 +2,8 @@
 -- Assumes nothing.
 use Rattle.std.proofs.Common.{◌≡◌, ℕ, ◌+◌, ◌-◌, ◌^◌, ◌<◌, ◌≤◌, Bool, true, false, cond, ltb, leb, ◌≢◌, List, [], ◌∷◌, sym, refl, ap, ◌∙◌, ⊎_elim, arith, ltb-false, ltb-true, le-ltb, lt-ltb, eq-eqb, eqb-true, le-leb, leb-true}
 use mathlib.Core.Option.{Option, none, some}
+use Rattle.std.specs.Prelude as Opt
+use Rattle.std.specs.Prelude.{Some, None}
 use Rattle.laws.specs.Every.{pass, more, two, cases, clash}
 use Rattle.laws.specs.Tests.{both, both_pass, either}
 use Rattle.pages.specs.Vulkan.{Resource}
@@ -16,6 +18,7 @@ use Rattle.search.specs.Best.{best_slot, better_at}
 use Rattle.search.specs.Fit.{before_at, after_at, before-chunk, after-chunk}
 use Rattle.search.specs.Found.{slot_of_spot}
 use Rattle.search.specs.Held.{HeldIn, in_bytes}
+use Rattle.search.specs.Slots.{some_slot, slot_some}
 
 -- ---- from left to right
 
@@ -109,12 +112,12 @@ module _ (ws : List ℕ) (k : ℕ) (z : Spot) (h : InSlot ws k z) (r : Request) 
 -- ---- the loop
 
 -- best and least are the slot and the size of the best so far
-abbrev Noted : Option Spot → ℕ → ℕ → Type 0
-Noted none best least = (best ≡ 0) × (largest_block < least)
-Noted (some z) best least = (best ≡ z.chunk.slot) × (least ≡ z.chunk.size)
+abbrev Noted : Option Spot → Opt.Option ℕ → ℕ → Type 0
+Noted none best least = (best ≡ None) × (largest_block < least)
+Noted (some z) best least = (best ≡ some_slot z.chunk.slot) × (least ≡ z.chunk.size)
 
 -- The search is about to look at slot k: those on the left were looked at, and the best has so many bytes to spare.
-pub record Searching (ws : List ℕ) (r : Request) (k best spare : ℕ) : Type 0 where
+pub record Searching (ws : List ℕ) (r : Request) (k : ℕ) (best : Opt.Option ℕ) (spare : ℕ) : Type 0 where
   left : List Chunk
   right : List Chunk
   so_far : Option Spot
@@ -125,7 +128,7 @@ pub record Searching (ws : List ℕ) (r : Request) (k best spare : ℕ) : Type 0
 
 -- It begins with the first chunk, and with none chosen.
 pub begin : (ws : List ℕ) (r : Request) (k spare : ℕ) → sound ws ≡ true → k ≡ first_slot ws → largest_block < spare + r.size
-    → spare + r.size < 2 ^ 64 → Searching ws r k 0 spare
+    → spare + r.size < 2 ^ 64 → Searching ws r k None spare
 begin ws r k spare s e l m = record {
   left = [];
   right = (block_of ws).chunks;
@@ -136,7 +139,7 @@ begin ws r k spare s e l m = record {
   word = m;
 }
 
-module _ (ws : List ℕ) (s : sound ws ≡ true) (r : Request) (k best spare : ℕ) where
+module _ (ws : List ℕ) (s : sound ws ≡ true) (r : Request) (k : ℕ) (best : Opt.Option ℕ) (spare : ℕ) where
   abbrev least : ℕ
   least = spare + r.size
 
@@ -145,23 +148,23 @@ module _ (ws : List ℕ) (s : sound ws ≡ true) (r : Request) (k best spare : �
   held h n = along-held ws s k h.left h.right h.along n
 
   -- At slot 0 all were looked at.
-  pub done : Searching ws r k best spare → k ≡ 0 → best ≡ best_slot ws r
+  pub done : Searching ws r k best spare → k ≡ 0 → best ≡ some_slot (best_slot ws r)
   unfolding best_slot
   done h z =
       let e = along-end ws s k h.left h.right h.along z in
       noted-slot h.so_far h.noted
-      ∙ ap slot_of_spot
+      ∙ ap (λ (o : Option Spot). some_slot (slot_of_spot o))
       (sym (keep_none h.so_far)
       ∙ ap (λ (cs : List Chunk). keep_best h.so_far (bestOf (holds r) (spots h.left cs))) (sym e)
       ∙ h.choice)
     where
-      noted-slot : (o : Option Spot) → Noted o best least → best ≡ slot_of_spot o
+      noted-slot : (o : Option Spot) → Noted o best least → best ≡ some_slot (slot_of_spot o)
       noted-slot none q = q.0
       noted-slot (some x) q = q.0
 
   -- the search goes on at the next slot
   on : (left cs : List Chunk) (c : Chunk) → Along ws k left (c ∷ cs)
-      → (o : Option Spot) (b l : ℕ) → Noted o b (l + r.size) → l + r.size < 2 ^ 64
+      → (o : Option Spot) (b : Opt.Option ℕ) (l : ℕ) → Noted o b (l + r.size) → l + r.size < 2 ^ 64
       → keep_best o (bestOf (holds r) (spots (c ∷ left) cs)) ≡ chosen r (block_of ws)
       → Searching ws r (next_at ws k) b l
   on left cs c a o b l q m x = record {
@@ -181,7 +184,7 @@ module _ (ws : List ℕ) (s : sound ws ≡ true) (r : Request) (k best spare : �
 
   -- and is noted: it has its size, less that of the request, to spare.
   pub go-better : Searching ws r k best spare → k ≢ 0 → better_at ws k least r ≡ true → (size : ℕ) → size ≡ size_at ws k
-      → Searching ws r (next_at ws k) k (size - r.size)
+      → Searching ws r (next_at ws k) (Some k) (size - r.size)
   go-better h n t size d = go h.right h.along h.choice
     where
       replaced : (o : Option Spot) (z : Spot) → Noted o best least → z.chunk.size < least → keep_best o (some z) ≡ some z
@@ -190,7 +193,7 @@ module _ (ws : List ℕ) (s : sound ws ≡ true) (r : Request) (k best spare : �
 
       go : (right : List Chunk) → Along ws k h.left right
           → keep_best h.so_far (bestOf (holds r) (spots h.left right)) ≡ chosen r (block_of ws)
-          → Searching ws r (next_at ws k) k (size - r.size)
+          → Searching ws r (next_at ws k) (Some k) (size - r.size)
       go [] a q = absurd (n a.slot)
       go (c ∷ cs) a q =
           let z : Spot = record { left = h.left; chunk = c; right = cs } in
@@ -200,7 +203,7 @@ module _ (ws : List ℕ) (s : sound ws ≡ true) (r : Request) (k best spare : �
           rw b.0 (replaced h.so_far z h.noted b.1) in
           let f : size - r.size + r.size ≡ size_at ws k = omega (arith, better-size t) in
           let m = in_bytes ws k z i s in
-          on h.left cs c a (some z) k (size - r.size) (a.slot, f ∙ (in_words i).size) (omega arith)
+          on h.left cs c a (some z) (Some k) (size - r.size) (slot_some k n ∙ ap some_slot a.slot, f ∙ (in_words i).size) (omega arith)
           (ap (λ (o : Option Spot). keep_best o (bestOf (holds r) (spots (c ∷ h.left) cs))) (sym x)
           ∙ sym (keep_step (holds r) h.so_far z (spots (c ∷ h.left) cs)) ∙ q)
 

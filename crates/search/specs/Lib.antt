@@ -1,5 +1,6 @@
 -- What is looked up in a sound table.
 pub mod Held
+pub mod Slots
 pub mod Scan
 pub mod Empty
 pub mod Found

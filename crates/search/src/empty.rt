@@ -1,15 +1,16 @@
 // The slot that a new chunk takes.
-ghost use Rattle.std.specs.Prelude.{◌≡◌, true};
+ghost use Rattle.std.specs.Prelude.{◌≡◌};
 ghost use Rattle.model.specs.Placing.{new_slot};
-ghost use Rattle.table.specs.Layout.{is_table};
-ghost use Rattle.words.specs.Words.{block_of, sound};
+ghost use Rattle.table.specs.Layout.{slot_count};
+ghost use Rattle.words.specs.Words.{block_of};
+ghost use Rattle.search.specs.Slots.{within};
 
 use crate::scan;
+use words::sound::SoundTable;
 
-// The lowest empty slot of a sound table, one past the last where there is none.
-pub fn empty_slot(w: &[u64]) -> u64
-    requires { (is_table w.now ≡ true) × (sound w.now ≡ true) }
-    ensures { result ≡ new_slot (block_of w.now) }
+// The lowest empty slot.
+pub fn empty_slot(table: SoundTable) -> Option<u64>
+    ensures { result ≡ within (slot_count table.entry.words.now) (new_slot (block_of table.entry.words.now)) }
 {
-    scan::slot_with(w, 0)
+    scan::slot_with(table, 0)
 }

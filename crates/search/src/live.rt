@@ -1,24 +1,20 @@
 // The slot of the live chunk with an id.
-ghost use Rattle.std.specs.Prelude.{◌≡◌, true};
-ghost use Rattle.table.specs.Layout.{is_table};
-ghost use Rattle.words.specs.Words.{sound};
+ghost use Rattle.std.specs.Prelude.{◌≡◌};
 ghost use Rattle.search.specs.Live.{live_slot};
+ghost use Rattle.search.specs.Slots.{some_slot};
 
 use crate::scan;
 use table::layout;
+use words::sound::SoundTable;
 
-// 0 where no live chunk of a sound table has the id: only a free chunk, or none.
-pub fn find_live(w: &[u64], id: u64) -> u64
-    requires { (is_table w.now ≡ true) × (sound w.now ≡ true) }
-    ensures { result ≡ live_slot w.now id }
+// None where only a free chunk has the id, or no chunk.
+pub fn find_live(table: SoundTable, id: u64) -> Option<u64>
+    ensures { result ≡ some_slot (live_slot table.entry.words.now id) }
 {
-    let k = scan::slot_with(w, id);
-    if layout::slot_count(w) < k {
-        return 0;
-    }
+    let k = scan::slot_with(table, id)?;
     // an empty slot, which is the one with id 0, has kind 0 as a free chunk has
-    if layout::kind(w, k) == 0 {
-        return 0;
+    if layout::is_free(table.words, k) {
+        return None;
     }
-    k
+    Some(k)
 }

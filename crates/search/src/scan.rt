@@ -1,22 +1,16 @@
 // The lowest slot with an id: ids differ in a sound table, and an empty slot has id 0.
-ghost use Rattle.std.specs.Prelude.{◌≡◌, true};
-ghost use Rattle.table.specs.Layout.{is_table};
+ghost use Rattle.std.specs.Prelude.{◌≡◌};
+ghost use Rattle.table.specs.Layout.{slot_count};
 ghost use Rattle.search.specs.Scan.{slot_with};
+ghost use Rattle.search.specs.Slots.{within};
 
 use table::layout;
+use table::layout::Field;
+use words::sound::SoundTable;
 
-// One past the last slot where none has it.
-pub fn slot_with(w: &[u64], id: u64) -> u64
-    requires { is_table w.now ≡ true }
-    ensures { result ≡ slot_with w.now id }
+pub fn slot_with(table: SoundTable, id: u64) -> Option<u64>
+    ensures { result ≡ within (slot_count table.entry.words.now) (slot_with table.entry.words.now id) }
 {
-    let slots = layout::slot_count(w);
-    let mut k: u64 = 1;
-    while k <= slots {
-        if layout::id(w, k) == id {
-            return k;
-        }
-        k += 1;
-    }
-    k
+    (1..layout::slot_count(table.words) + 1).find(|&k| layout::word(table.words, k, Field::Id)
+        == id)
 }

@@ -5,7 +5,7 @@ use Rattle.search.proofs.Searching.{Searching}
 use Rattle.search.proofs.best.best.Given as goal
 
 abbrev pub invariant-loop-next : goal.invariant-loop-next
-invariant-loop-next l = Searching l.w (request_of l.request) l.next l.best l.spare
+invariant-loop-next l = Searching l.table.words.now (request_of l.request.request) l.next l.best l.spare
 
 abbrev pub decreases-loop-next : goal.decreases-loop-next
-decreases-loop-next l = ahead l.w l.next
+decreases-loop-next l = ahead l.table.words.now l.next

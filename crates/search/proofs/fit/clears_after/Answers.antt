@@ -6,33 +6,33 @@ use Rattle.search.specs.Held.{held_slot}
 use Rattle.search.proofs.PageWays.{none_after, kinds-after, page-after}
 use Rattle.search.proofs.fit.clears_after.Goals as goal
 
-pub next-after-requires : goal.next-after-requires
-next-after-requires c = held_slot c.requires.1
+pub word-after-requires : goal.word-after-requires
+word-after-requires c = held_slot c.requires.0
 
 pub returns-then-after-eq0 : goal.returns-then-after-eq0
-returns-then-after-eq0 c = none_after _ _ _ c.next-after.ensures (request_of c.args.request) _ c.if-after-eq0.true
+returns-then-after-eq0 c = none_after _ _ _ c.word-after.ensures (request_of c.args.request.request) _ c.if-after-eq0.true
 
-pub kind-requires : goal.kind-requires
-kind-requires c = held_slot (held_next _ _ c.requires.1 _ c.next-after.ensures c.if-after-eq0.false)
+pub word-kind-requires : goal.word-kind-requires
+word-kind-requires c = held_slot (held_next _ _ c.requires.0 _ c.word-after.ensures c.if-after-eq0.false)
 
 pub returns-then-not-has_granularity_conflict : goal.returns-then-not-has_granularity_conflict
 returns-then-not-has_granularity_conflict c =
-    kinds-after _ _ _ c.next-after.ensures (request_of c.args.request) _ c.if-after-eq0.false _ c.kind.ensures _
+    kinds-after _ _ _ c.word-after.ensures (request_of c.args.request.request) _ c.if-after-eq0.false _ c.word-kind.ensures _
     c.has_granularity_conflict.ensures (ap not c.if-not-has_granularity_conflict.true)
 
-pub first_byte-first-requires : goal.first_byte-first-requires
-first_byte-first-requires c = held_slot (held_next _ _ c.requires.1 _ c.next-after.ensures c.if-after-eq0.false)
+pub word-first-requires : goal.word-first-requires
+word-first-requires c = held_slot (held_next _ _ c.requires.0 _ c.word-after.ensures c.if-after-eq0.false)
 
 pub is_on_same_page-requires-clause-page_size_value : goal.is_on_same_page-requires-clause-page_size_value
-is_on_same_page-requires-clause-page_size_value c = (fault-free _ c.requires.0).2
+is_on_same_page-requires-clause-page_size_value c = (fault-free _ c.args.request.well_formed).2
 
 pub is_on_same_page-requires-clause-size_a_nonzero : goal.is_on_same_page-requires-clause-size_a_nonzero
 is_on_same_page-requires-clause-size_a_nonzero c =
-    let r = fault-free _ c.requires.0 in
-    (omega (arith, r.0), c.requires.2)
+    let r = fault-free _ c.args.request.well_formed in
+    (omega (arith, r.0), c.requires.1)
 
 pub returns : goal.returns
 returns c =
-    page-after _ _ _ c.next-after.ensures (request_of c.args.request) _ c.if-after-eq0.false _ c.kind.ensures _
-    c.has_granularity_conflict.ensures (ap not c.if-not-has_granularity_conflict.false) _ c.first_byte-first.ensures _
+    page-after _ _ _ c.word-after.ensures (request_of c.args.request.request) _ c.if-after-eq0.false _ c.word-kind.ensures _
+    c.has_granularity_conflict.ensures (ap not c.if-not-has_granularity_conflict.false) _ c.word-first.ensures _
     c.is_on_same_page.ensures

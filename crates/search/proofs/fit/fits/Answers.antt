@@ -5,37 +5,37 @@ use Rattle.search.specs.Held.{held_slot}
 use Rattle.search.proofs.Offsets.{ends, too_long, long-enough}
 use Rattle.search.proofs.fit.fits.Goals as goal
 
-pub first_byte-first-requires : goal.first_byte-first-requires
-first_byte-first-requires c = held_slot c.requires.2
+pub word-first-requires : goal.word-first-requires
+word-first-requires c = held_slot c.requires.0
 
 pub overflow_sub-padding : goal.overflow_sub-padding
 overflow_sub-padding c =
-    (ends _ (request-words _ _ c.well_formed.1.1.0) c.requires.1 _ _ c.requires.2 c.requires.0 c.requires.3 _ _ _
-    c.first_byte-first.ensures c.offset_in-offset.ensures).0
+    (ends _ (request-words _ _ c.well_formed.1.1.0.1.1.0) c.args.request.well_formed _ _ c.requires.0 c.args.table.sound c.requires.1 _ _ _
+    c.word-first.ensures c.offset_in-offset.ensures).0
 
-pub size-requires : goal.size-requires
-size-requires c = held_slot c.requires.2
+pub word-requires : goal.word-requires
+word-requires c = held_slot c.requires.0
 
 pub overflow_add-padding : goal.overflow_add-padding
 overflow_add-padding c =
     let b =
-    ends _ (request-words _ _ c.well_formed.1.1.0) c.requires.1 _ _ c.requires.2 c.requires.0 c.requires.3 _ _ _
-    c.first_byte-first.ensures c.offset_in-offset.ensures in
+    ends _ (request-words _ _ c.well_formed.1.1.0.1.1.0) c.args.request.well_formed _ _ c.requires.0 c.args.table.sound c.requires.1 _ _ _
+    c.word-first.ensures c.offset_in-offset.ensures in
     omega (arith, b.1, b.0)
 
-pub returns-then-size-padding : goal.returns-then-size-padding
-returns-then-size-padding c =
+pub returns-then-word-padding : goal.returns-then-word-padding
+returns-then-word-padding c =
     too_long _ _ _ _ _ _ c.offset_in-offset.ensures
-    (omega (arith, c.first_byte-first.ensures, c.size.ensures, c.if-size-padding.true))
+    (omega (arith, c.word-first.ensures, c.word.ensures, c.if-word-padding.true))
 
 pub clears_after-requires : goal.clears_after-requires
 clears_after-requires c =
     let b =
-    ends _ (request-words _ _ c.well_formed.1.1.0) c.requires.1 _ _ c.requires.2 c.requires.0 c.requires.3 _ _ _
-    c.first_byte-first.ensures c.offset_in-offset.ensures in
-    (c.requires.1, c.requires.2, omega (arith, b))
+    ends _ (request-words _ _ c.well_formed.1.1.0.1.1.0) c.args.request.well_formed _ _ c.requires.0 c.args.table.sound c.requires.1 _ _ _
+    c.word-first.ensures c.offset_in-offset.ensures in
+    (c.requires.0, omega (arith, b))
 
 pub returns : goal.returns
 returns c =
     long-enough _ _ _ _ _ _ c.offset_in-offset.ensures
-    (omega (arith, c.first_byte-first.ensures, c.size.ensures, c.if-size-padding.false)) _ c.clears_after.ensures
+    (omega (arith, c.word-first.ensures, c.word.ensures, c.if-word-padding.false)) _ c.clears_after.ensures
