@@ -1,25 +1,28 @@
 // Two free neighbours become one.
-ghost use Rattle.std.specs.Prelude.{List, ◌≡◌, ◌+◌, ◌≤◌, ◌<◌, ◌^◌};
+ghost use Rattle.std.specs.Prelude.{List, ◌≡◌};
 ghost use Rattle.model.specs.Block.{Chunk};
-ghost use Rattle.table.specs.Layout.{Slot, slot_count, size_at, next_at};
 ghost use Rattle.words.specs.Words.{encode, block_of};
 ghost use Rattle.chunks.specs.Premises.{TwoFree};
+ghost use Rattle.pieces.specs.Premises.{CanJoin};
 ghost use Rattle.pieces.specs.Steps.{joined};
 
 use crate::links;
 use stores;
+use stores::Row;
 use table::layout;
+use table::layout::Field;
 
 // The free chunk in slot k takes in the chunk after it, whose slot is empty then.
 pub fn join(w: &mut [u64], k: u64)
-    requires { Slot w.old k × Slot w.old (next_at w.old k) × (next_at w.old (next_at w.old k) ≤ slot_count w.old) × (size_at w.old k + size_at w.old (next_at w.old k) < 2 ^ 64) }
-    ensures { (left : List Chunk) (c d : Chunk) (right : List Chunk) → TwoFree w.old k left c d right → w.new ≡ encode (joined left c d right (block_of w.old)) }
+    requires { CanJoin w.old k }
+    ensures { (left : List Chunk) (c d : Chunk) (right : List Chunk) → TwoFree w.old k left c d right
+        → w.new ≡ encode (joined left c d right (block_of w.old)) }
 {
-    let n = layout::next(w, k);
-    let after = layout::next(w, n);
-    let size = layout::size(w, k) + layout::size(w, n);
-    stores::set_slot(w, n, 0, 0, 0, 0, 0, 0, 0);
-    stores::set_size(w, k, size);
-    stores::set_next(w, k, after);
+    let n = layout::word(w, k, Field::Next);
+    let after = layout::word(w, n, Field::Next);
+    let size = layout::word(w, k, Field::Size) + layout::word(w, n, Field::Size);
+    stores::set_row(w, n, Row::default());
+    stores::set_word(w, k, Field::Size, size);
+    stores::set_word(w, k, Field::Next, after);
     links::set_previous_of(w, after, k);
 }
