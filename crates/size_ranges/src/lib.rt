@@ -1,29 +1,16 @@
-// The size of one block: adjusted, tested, between a minimum and a maximum, and grown from one to the other.
+// The size of one block: adjusted, tested, and grown from a minimum to a maximum.
 #![tactic(auto)]
 
-ghost use Rattle.std.specs.Prelude.{true, ◌≡◌};
-ghost use Prim.Native.Nat;
+ghost use Rattle.std.specs.Prelude.{true, ◌≡◌, is_some, IfSome, max};
 ghost use Rattle.size_ranges.specs.SizeRanges.{adjust, is_block_size, is_range, grown};
 
 pub const MB: u64 = 1024 * 1024;
-
-fn min(a: u64, b: u64) -> u64
-    ensures { result ≡ Nat.min a b }
-{
-    if a < b { a } else { b }
-}
-
-pub fn max(a: u64, b: u64) -> u64
-    ensures { result ≡ Nat.max a b }
-{
-    if a < b { b } else { a }
-}
 
 #[tactic(auto, unfolding(crate::specs::SizeRanges::adjust, laws::specs::Rounding::align_up, laws::specs::Rounding::align_down))]
 pub fn adjust_memblock_size(size: u64) -> u64
     ensures { result ≡ adjust size }
 {
-    let size = min(max(size, 4 * MB), 256 * MB);
+    let size = size.clamp(4 * MB, 256 * MB);
     if size % (4 * MB) == 0 {
         return size;
     }
@@ -35,32 +22,42 @@ pub fn adjust_memblock_size(size: u64) -> u64
 fn is_block_size(size: u64) -> bool
     ensures { result ≡ is_block_size size }
 {
-    if size < 4 * MB {
-        return false;
-    }
-    if 256 * MB < size {
-        return false;
-    }
-    size % (4 * MB) == 0
+    4 * MB <= size && size <= 256 * MB && size % (4 * MB) == 0
 }
 
-#[tactic(auto, unfolding(crate::specs::SizeRanges::is_range))]
-pub fn is_range(least: u64, most: u64) -> bool
-    ensures { result ≡ is_range least most }
-{
-    if !is_block_size(least) {
-        return false;
-    }
-    if !is_block_size(most) {
-        return false;
-    }
-    least <= most
+// The size that blocks begin with, and the most that they grow to: both are block sizes, in order.
+#[derive(Clone, Copy)]
+pub struct SizeRange {
+    pub least: u64,
+    pub most: u64,
+    pub ghost range: { is_range least most ≡ true },
 }
 
-// A producible size is at most 2 ^ 28, so that seven doublings lose no bit.
-pub fn grow(least: u64, most: u64, count: u64) -> u64
-    requires { is_range least most ≡ true }
-    ensures { result ≡ grown least most count }
-{
-    min(least << min(count, 7), most)
+impl SizeRange {
+    // None where the two numbers are no range.
+    #[tactic(auto, unfolding(crate::specs::SizeRanges::is_range))]
+    pub fn new(least: u64, most: u64) -> Option<SizeRange>
+        ensures range { is_some result ≡ is_range least most }
+        ensures same { IfSome result (λ r. (r.least ≡ least) × (r.most ≡ most)) }
+    {
+        if is_block_size(least) && is_block_size(most) && least <= most {
+            Some(SizeRange { least, most })
+        } else {
+            None
+        }
+    }
+
+    // What the most becomes where a size is asked for: never below the least.
+    pub fn most_for(self, size: u64) -> u64
+        ensures { result ≡ max (adjust size) self.least }
+    {
+        adjust_memblock_size(size).max(self.least)
+    }
+
+    // A block's size is at most 2 ^ 28, so that seven doublings lose no bit.
+    pub fn grow(self, count: u64) -> u64
+        ensures { result ≡ grown self.least self.most count }
+    {
+        (self.least << count.min(7)).min(self.most)
+    }
 }

@@ -1,12 +1,25 @@
 -- The sizes of memory blocks: what each call answers. Assumes nothing.
-use Rattle.std.specs.Prelude.{ℕ, ◌*◌, max, Bool, true, false, cond, ◌&&◌, ◌≡◌}
+use Rattle.std.specs.Prelude.{ℕ, ◌*◌, max, Bool, true, false, cond, ◌&&◌, List, [], ◌∷◌, get_or}
 use Rattle.laws.specs.Reply.{Reply, accepted, refused}
 use Rattle.size_ranges.specs.SizeRanges.{MiB, adjust, is_range, grown}
 use Rattle.sizes.specs.declared.AllocationSizes.{AllocationSizes}
-use Rattle.sizes.specs.declared.BlockSize.{BlockSize}
-use Rattle.sizes.specs.declared.BlockSize.TheVariants as block_size
-use Rattle.sizes.specs.declared.Changed.{Changed}
-use Rattle.sizes.specs.declared.Changed.TheVariants as changed
+
+-- the sizes that four numbers stand for
+abbrev pub sizes_of : ℕ → ℕ → ℕ → ℕ → AllocationSizes
+sizes_of min-device max-device min-host max-host = record {
+  min_device_memblock_size = min-device;
+  max_device_memblock_size = max-device;
+  min_host_memblock_size = min-host;
+  max_host_memblock_size = max-host;
+}
+
+-- the same of four numbers in a list
+abbrev pub numbered : List ℕ → AllocationSizes
+numbered ns = sizes_of (get_or ns 0 0) (get_or ns 1 0) (get_or ns 2 0) (get_or ns 3 0)
+
+-- the four words that stand for sizes
+abbrev pub words : AllocationSizes → List ℕ
+words s = s.min_device_memblock_size ∷ s.max_device_memblock_size ∷ s.min_host_memblock_size ∷ s.max_host_memblock_size ∷ []
 
 -- each maximum begins as its minimum
 unfoldable pub new_sizes : ℕ → ℕ → AllocationSizes
@@ -64,27 +77,3 @@ next_size s false count = grown s.min_device_memblock_size s.max_device_memblock
 
 unfoldable pub memblock_size : AllocationSizes → Bool → ℕ → Reply ℕ
 memblock_size s host count = if_producible s (next_size s host count)
-
--- the paper's number and values for each case of a setter's answer
-abbrev pub reply_sizes : Changed → Reply AllocationSizes
-reply_sizes (changed.Sizes s) = accepted s
-reply_sizes (changed.Refused n) = refused n
-
--- and of a block size's
-abbrev pub reply_size : BlockSize → Reply ℕ
-reply_size (block_size.Bytes n) = accepted n
-reply_size (block_size.Refused n) = refused n
-
--- Two answers of a setter that stand for the same reply are equal.
-pub one_change : (a b : Changed) → reply_sizes a ≡ reply_sizes b → a ≡ b
-one_change (changed.Sizes s) (changed.Sizes t) e = cc
-one_change (changed.Sizes s) (changed.Refused n) e = cc
-one_change (changed.Refused n) (changed.Sizes t) e = cc
-one_change (changed.Refused n) (changed.Refused m) e = cc
-
--- And two of a block size's.
-pub one_size : (a b : BlockSize) → reply_size a ≡ reply_size b → a ≡ b
-one_size (block_size.Bytes n) (block_size.Bytes m) e = cc
-one_size (block_size.Bytes n) (block_size.Refused m) e = cc
-one_size (block_size.Refused n) (block_size.Bytes m) e = cc
-one_size (block_size.Refused n) (block_size.Refused m) e = cc

@@ -1,13 +1,15 @@
 // The sizes of memory blocks that an allocator opens, by value.
 #![tactic(auto)]
 
-ghost use Rattle.std.specs.Prelude.{◌≡◌};
-ghost use Rattle.laws.specs.Reply.{number};
-ghost use Rattle.sizes.specs.Sizes.{is_producible, new_sizes, default_sizes, set_max_device, set_max_host, memblock_size, reply_sizes, reply_size};
+ghost use Rattle.std.specs.Prelude.{◌≡◌, cond, IfOk};
+ghost use Rattle.refusals.specs.Refusals.{reply, fault_of};
+ghost use Rattle.sizes.specs.Sizes.{is_producible, new_sizes, default_sizes, set_max_device, set_max_host, memblock_size, numbered, words};
 
-use size_ranges::{MB, adjust_memblock_size, grow, is_range, max};
+use refusals::Refusal;
+use size_ranges::{MB, SizeRange, adjust_memblock_size};
 
-#[derive(Clone, Copy)]
+// The fields are the Rust's, and any caller may make the four numbers up.
+#[derive(Clone, Copy, Debug, PartialEq, Eq)]
 pub struct AllocationSizes {
     pub min_device_memblock_size: u64,
     pub max_device_memblock_size: u64,
@@ -15,41 +17,51 @@ pub struct AllocationSizes {
     pub max_host_memblock_size: u64,
 }
 
-// What a setter answers: the changed sizes, or a refusal's number.
-#[derive(Drop)]
-pub enum Changed {
-    Sizes(AllocationSizes),
-    Refused(u64),
+// The same numbers where the calls here can reach them: a range for device blocks, and one for host blocks.
+#[derive(Clone, Copy)]
+struct Ranges {
+    device: SizeRange,
+    host: SizeRange,
 }
 
-// What the question for a block's size answers.
-#[derive(Drop)]
-pub enum BlockSize {
-    Bytes(u64),
-    Refused(u64),
-}
+impl Default for AllocationSizes {
+    ghost is_default = { λ sizes. sizes ≡ default_sizes };
 
-impl Changed {
-    // The number given back: 0 where the call was accepted.
-    pub fn number(self) -> u64
-        ensures { result ≡ number (reply_sizes self) }
-    {
-        match self {
-            Changed::Sizes(_) => 0,
-            Changed::Refused(n) => n,
+    fn default() -> AllocationSizes {
+        AllocationSizes {
+            min_device_memblock_size: 256 * MB,
+            max_device_memblock_size: 256 * MB,
+            min_host_memblock_size: 64 * MB,
+            max_host_memblock_size: 64 * MB,
         }
     }
 }
 
-impl BlockSize {
-    // The number given back: 0 where the call was accepted.
-    pub fn number(self) -> u64
-        ensures { result ≡ number (reply_size self) }
-    {
-        match self {
-            BlockSize::Bytes(_) => 0,
-            BlockSize::Refused(n) => n,
+// Four numbers stand for sizes, in the order of the fields, and back.
+impl From<[u64; 4]> for AllocationSizes {
+    ghost from_gives = { λ numbers sizes. sizes ≡ numbered numbers };
+
+    fn from(numbers: [u64; 4]) -> AllocationSizes {
+        let [min_device, max_device, min_host, max_host] = numbers;
+        AllocationSizes {
+            min_device_memblock_size: min_device,
+            max_device_memblock_size: max_device,
+            min_host_memblock_size: min_host,
+            max_host_memblock_size: max_host,
         }
+    }
+}
+
+impl From<AllocationSizes> for [u64; 4] {
+    ghost from_gives = { λ sizes numbers. numbers ≡ words sizes };
+
+    fn from(sizes: AllocationSizes) -> [u64; 4] {
+        [
+            sizes.min_device_memblock_size,
+            sizes.max_device_memblock_size,
+            sizes.min_host_memblock_size,
+            sizes.max_host_memblock_size,
+        ]
     }
 }
 
@@ -68,71 +80,43 @@ impl AllocationSizes {
         }
     }
 
-    pub fn default() -> Self
-        ensures { result ≡ default_sizes }
-    {
-        AllocationSizes {
-            min_device_memblock_size: 256 * MB,
-            max_device_memblock_size: 256 * MB,
-            min_host_memblock_size: 64 * MB,
-            max_host_memblock_size: 64 * MB,
-        }
-    }
-
-    // The caller may have made the four numbers up: only those that the calls here can reach are taken.
     #[tactic(auto, unfolding(crate::specs::Sizes::is_producible))]
-    fn is_producible(self) -> bool
-        ensures { result ≡ is_producible self }
+    fn checked(self) -> Result<Ranges, Refusal>
+        ensures fault { fault_of result ≡ cond (is_producible self) 0 14 }
+        ensures device { IfOk result (λ r. (r.device.least ≡ self.min_device_memblock_size) × (r.device.most ≡ self.max_device_memblock_size)) }
+        ensures host { IfOk result (λ r. (r.host.least ≡ self.min_host_memblock_size) × (r.host.most ≡ self.max_host_memblock_size)) }
     {
-        if !is_range(self.min_device_memblock_size, self.max_device_memblock_size) {
-            return false;
+        let device = SizeRange::new(self.min_device_memblock_size, self.max_device_memblock_size);
+        let host = SizeRange::new(self.min_host_memblock_size, self.max_host_memblock_size);
+        match (device, host) {
+            (Some(device), Some(host)) => Ok(Ranges { device, host }),
+            _ => Err(Refusal::Sizes),
         }
-        is_range(self.min_host_memblock_size, self.max_host_memblock_size)
     }
 
+    // Both setters are the Rust's by name, and what they share is `checked` and `most_for`.
     #[tactic(auto, unfolding(crate::specs::Sizes::if_producible, crate::specs::Sizes::set_max_device, crate::specs::Sizes::with_max_device))]
-    pub fn with_max_device_memblock_size(mut self, size: u64) -> Changed
-        ensures { reply_sizes result ≡ set_max_device self size }
+    pub fn with_max_device_memblock_size(mut self, size: u64) -> Result<Self, Refusal>
+        ensures { reply result ≡ set_max_device self size }
     {
-        if !self.is_producible() {
-            return Changed::Refused(14);
-        }
-        self.max_device_memblock_size = max(
-            adjust_memblock_size(size),
-            self.min_device_memblock_size,
-        );
-        Changed::Sizes(self)
+        self.max_device_memblock_size = self.checked()?.device.most_for(size);
+        Ok(self)
     }
 
     #[tactic(auto, unfolding(crate::specs::Sizes::if_producible, crate::specs::Sizes::set_max_host, crate::specs::Sizes::with_max_host))]
-    pub fn with_max_host_memblock_size(mut self, size: u64) -> Changed
-        ensures { reply_sizes result ≡ set_max_host self size }
+    pub fn with_max_host_memblock_size(mut self, size: u64) -> Result<Self, Refusal>
+        ensures { reply result ≡ set_max_host self size }
     {
-        if !self.is_producible() {
-            return Changed::Refused(14);
-        }
-        self.max_host_memblock_size = max(adjust_memblock_size(size), self.min_host_memblock_size);
-        Changed::Sizes(self)
+        self.max_host_memblock_size = self.checked()?.host.most_for(size);
+        Ok(self)
     }
 
     #[tactic(auto, unfolding(crate::specs::Sizes::if_producible, crate::specs::Sizes::memblock_size))]
-    pub fn get_memblock_size(self, is_host: bool, count: u64) -> BlockSize
-        ensures { reply_size result ≡ memblock_size self is_host count }
+    pub fn get_memblock_size(self, is_host: bool, count: u64) -> Result<u64, Refusal>
+        ensures { reply result ≡ memblock_size self is_host count }
     {
-        if !self.is_producible() {
-            return BlockSize::Refused(14);
-        }
-        if is_host {
-            return BlockSize::Bytes(grow(
-                self.min_host_memblock_size,
-                self.max_host_memblock_size,
-                count,
-            ));
-        }
-        BlockSize::Bytes(grow(
-            self.min_device_memblock_size,
-            self.max_device_memblock_size,
-            count,
-        ))
+        let ranges = self.checked()?;
+        let range = if is_host { ranges.host } else { ranges.device };
+        Ok(range.grow(count))
     }
 }

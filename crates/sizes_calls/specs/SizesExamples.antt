@@ -1,8 +1,8 @@
 -- What crosses the boundary of block sizes, by computing. Assumes nothing.
 use Rattle.std.specs.Prelude.{◌*◌, ◌^◌, true, false, [], ◌∷◌, ◌≡◌, refl}
 use Rattle.laws.specs.Reply.{accepted, refused}
-use Rattle.sizes.specs.Sizes.{default_sizes}
-use Rattle.sizes_calls.specs.SizesCalls.{sizes_of, words, sizes_out, is_host}
+use Rattle.sizes.specs.Sizes.{sizes_of, words, default_sizes}
+use Rattle.sizes_calls.specs.SizesCalls.{sizes_out, is_host}
 
 -- Four numbers in and four words out are in the same order, device before host and minimum before maximum.
 in_order : sizes_out (accepted (sizes_of 1 2 3 4)) ≡ (0, 1 ∷ 2 ∷ 3 ∷ 4 ∷ [])
