@@ -1,8 +1,7 @@
 -- That the walk hands out every live chunk once, by rising address, then the end. Assumes nothing.
-use Rattle.std.specs.Prelude.{ℕ, zero, suc, ◌+◌, ◌≤◌, Bool, true, false, cond, ◌≡◌, refl, leb, length, replicate}
+use Rattle.std.specs.Prelude.{ℕ, zero, suc, ◌+◌, ◌≤◌, Bool, true, false, cond, ◌≡◌, refl, leb, length, replicate, Option, None, Some}
 use Rattle.std.proofs.Common.{arith, sym, subst, ◌∙◌, leb-true, leb-false, le-leb}
 use mathlib.Core.List.{List, [], ◌∷◌}
-use Rattle.std.proofs.Math.Option.{Option, none, some}
 use Rattle.std.proofs.Math.Path.{ap}
 use Rattle.std.proofs.lemmas.Bool.{lt-leb}
 use Rattle.laws.specs.Lists.{All, Pairwise, all_map, all_of}
@@ -18,39 +17,39 @@ use Rattle.leaks.proofs.Handed.{leak_first}
 
 -- ---- the chunks from an address on
 
-from_all : (address : ℕ) (ls : List Live) → All (λ l. address ≤ l.first) ls → from address ls ≡ ls
+from_all : (address : ℕ) (ls : List Live) → All (λ l. address ≤ l.first_byte) ls → from address ls ≡ ls
 from_all address [] h = refl
 from_all address (x ∷ ls) h =
-    rw (le-leb address x.first h.0) (ap (λ (r : List Live). x ∷ r) (from_all address ls h.1))
+    rw (le-leb address x.first_byte h.0) (ap (λ (r : List Live). x ∷ r) (from_all address ls h.1))
 
-from-above : (address : ℕ) (ls : List Live) → All (λ l. address ≤ l.first) (from address ls)
+from-above : (address : ℕ) (ls : List Live) → All (λ l. address ≤ l.first_byte) (from address ls)
 from-above address [] = tt
 from-above address (x ∷ ls) =
-    cond_cases (All (λ l. address ≤ l.first)) (leb address x.first)
+    cond_cases (All (λ l. address ≤ l.first_byte)) (leb address x.first_byte)
     (λ e. (leb-true _ _ e, from-above address ls)) (λ e. from-above address ls)
 
 -- those from the end of the first one on are the others
 from_next : (address : ℕ) (ls : List Live) → Pairwise Before ls → All (λ l. 1 ≤ l.size) ls
-    → (l : Live) (rest : List Live) → from address ls ≡ l ∷ rest → from (l.first + l.size) ls ≡ rest
+    → (l : Live) (rest : List Live) → from address ls ≡ l ∷ rest → from (l.first_byte + l.size) ls ≡ rest
 from_next address [] h z l rest e = let c : ◌≡◌ {A = ℕ} 0 1 = cc in absurd (omega arith)
-from_next address (x ∷ ls) h z l rest e = go (leb address x.first) refl (from_next address ls h.1 z.1 l rest) e
+from_next address (x ∷ ls) h z l rest e = go (leb address x.first_byte) refl (from_next address ls h.1 z.1 l rest) e
   where
-    this : address ≤ x.first → from (x.first + x.size) (x ∷ ls) ≡ from address ls
+    this : address ≤ x.first_byte → from (x.first_byte + x.size) (x ∷ ls) ≡ from address ls
     this a =
-        rw (lt-leb (x.first + x.size) x.first (omega (arith, z.0)))
-        (from_all (x.first + x.size) ls h.0
-        ∙ sym (from_all address ls (all_map {Q = λ y. address ≤ y.first} (λ y (b : Before x y). omega arith) ls h.0)))
+        rw (lt-leb (x.first_byte + x.size) x.first_byte (omega (arith, z.0)))
+        (from_all (x.first_byte + x.size) ls h.0
+        ∙ sym (from_all address ls (all_map {Q = λ y. address ≤ y.first_byte} (λ y (b : Before x y). omega arith) ls h.0)))
 
-    go : (t : Bool) → leb address x.first ≡ t → (from address ls ≡ l ∷ rest → from (l.first + l.size) ls ≡ rest)
+    go : (t : Bool) → leb address x.first_byte ≡ t → (from address ls ≡ l ∷ rest → from (l.first_byte + l.size) ls ≡ rest)
         → cond t (x ∷ from address ls) (from address ls) ≡ l ∷ rest
-        → from (l.first + l.size) (x ∷ ls) ≡ rest
+        → from (l.first_byte + l.size) (x ∷ ls) ≡ rest
     go true q f e =
         let p : x ≡ l = cc in
         let r : from address ls ≡ rest = cc in
-        ap (λ (y : Live). from (y.first + y.size) (x ∷ ls)) (sym p) ∙ this (leb-true _ _ q) ∙ r
+        ap (λ (y : Live). from (y.first_byte + y.size) (x ∷ ls)) (sym p) ∙ this (leb-true _ _ q) ∙ r
     go false q f e =
-        let a : address ≤ l.first = (subst (All (λ y. address ≤ y.first)) e (from-above address ls)).0 in
-        rw (lt-leb (l.first + l.size) x.first (omega (arith, leb-false address x.first q)))
+        let a : address ≤ l.first_byte = (subst (All (λ y. address ≤ y.first_byte)) e (from-above address ls)).0 in
+        rw (lt-leb (l.first_byte + l.size) x.first_byte (omega (arith, leb-false address x.first_byte q)))
         (f e)
 
 -- ---- the theorems
@@ -63,10 +62,10 @@ module _ (ws : List ℕ) (t : TableWords ws) (s : Sound ws) where
       ap (λ (r : Reply (Option Live)). (r, place_after place r))
       (leak_first ws t s place ∙ ap (λ (r : List Live). accepted (first_of r)) e)
 
-  end-again : (place n : ℕ) → from place (lives ws) ≡ [] → walk_on ws place n ≡ replicate n (accepted none)
+  end-again : (place n : ℕ) → from place (lives ws) ≡ [] → walk_on ws place n ≡ replicate n (accepted None)
   end-again place zero e = refl
   end-again place (suc n) e =
-      rw (answer place [] e) (ap (λ (r : List (Reply (Option Live))). accepted none ∷ r) (end-again place n e))
+      rw (answer place [] e) (ap (λ (r : List (Reply (Option Live))). accepted None ∷ r) (end-again place n e))
 
   walks : (ls : List Live) (place n : ℕ) → from place (lives ws) ≡ ls → walk_on ws place (length ls + n) ≡ answers ls n
   walks [] place n e = let z : 0 + n ≡ n = omega arith in ap (walk_on ws place) z ∙ end-again place n e
@@ -75,7 +74,7 @@ module _ (ws : List ℕ) (t : TableWords ws) (s : Sound ws) where
       let f = from_next place (lives ws) (lives-rise ws t s) (lives-sizes ws t s) l ls e in
       ap (walk_on ws place) z
       ∙ rw (answer place (l ∷ ls) e)
-      (ap (λ (r : List (Reply (Option Live))). accepted (some l) ∷ r) (walks ls (l.first + l.size) n f))
+      (ap (λ (r : List (Reply (Option Live))). accepted (Some l) ∷ r) (walks ls (l.first_byte + l.size) n f))
 
   -- Steps from any place hand out the live chunks that begin there or later, then the end, and the end again.
   pub walk_from : (place n : ℕ)
@@ -84,4 +83,4 @@ module _ (ws : List ℕ) (t : TableWords ws) (s : Sound ws) where
 
   -- A walk hands out exactly the live chunks, once each and by rising address, then the end, and the end again.
   pub walk-all : (n : ℕ) → walk_on ws 0 (length (lives ws) + n) ≡ answers (lives ws) n
-  walk-all n = walks (lives ws) 0 n (from_all 0 (lives ws) (all_of (λ l. 0 ≤ l.first) (lives ws) (λ l m. omega arith)))
+  walk-all n = walks (lives ws) 0 n (from_all 0 (lives ws) (all_of (λ l. 0 ≤ l.first_byte) (lives ws) (λ l m. omega arith)))

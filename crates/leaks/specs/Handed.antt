@@ -1,15 +1,14 @@
 -- The lowest live chunk from an address on, in the words of a table. Assumes nothing.
-use Rattle.std.specs.Prelude.{ℕ, ◌≤◌}
+use Rattle.std.specs.Prelude.{ℕ, ◌≤◌, Option, None, Some}
 use mathlib.Core.List.{List, [], ◌∷◌}
-use Rattle.std.proofs.Math.Option.{Option, none, some}
 use Rattle.table.specs.Layout.{first_byte_at}
 use Rattle.leaks.specs.Leaks.{Live}
 use Rattle.leaks.specs.Lives.{LiveSlot}
 
 -- the first of the chunks, if there is one
 abbrev pub first_of : List Live → Option Live
-first_of [] = none
-first_of (l ∷ ls) = some l
+first_of [] = None
+first_of (l ∷ ls) = Some l
 
 -- slot k is a live chunk's that begins at the address or later
 abbrev pub LiveFrom : List ℕ → ℕ → ℕ → Type 0

@@ -1,26 +1,25 @@
 -- Worked examples of the walk, by computing: literal words in, literal answers out. Assumes nothing.
-use Rattle.std.specs.Prelude.{ℕ, ◌-◌, ◌^◌, List, [], ◌∷◌, map, ◌≡◌, refl, replicate, set}
-use Rattle.std.proofs.Math.Option.{Option, none, some}
+use Rattle.std.specs.Prelude.{ℕ, ◌-◌, ◌^◌, List, [], ◌∷◌, map, ◌≡◌, refl, replicate, set, Option, None, Some, Ok}
 use Rattle.laws.specs.Every.{every}
 use Rattle.laws.specs.Members.{has, distinct, same}
 use Rattle.laws.specs.Reply.{Reply, accepted, refused}
+use Rattle.refusals.specs.Refusals.{reply}
 use Rattle.table.specs.Layout.{is_table}
 use Rattle.words.specs.Words.{row_at, rows, encode, read, chunks_of, block_of, chunk_ok, all_ok, none_free, rules, sound, decode}
-use Rattle.leaks.specs.Leaks.{Live, reply_leak, live_from, leak_on, step_on}
+use Rattle.leaks.specs.Leaks.{Live, live_from, leak_on, step_on}
 use Rattle.leaks.specs.Lives.{lives}
 use Rattle.leaks.specs.Walked.{walk_on}
-use Rattle.leaks.specs.declared.leak.Leak.TheVariants as leak
 
 -- a chunk that is handed out; what the examples compute with is opened here, once
 live : ℕ → ℕ → ℕ → ℕ → ℕ → Reply (Option Live)
 unfolding lives step_on leak_on live_from is_table decode sound rules none_free all_ok chunk_ok block_of chunks_of read encode rows row_at every has distinct same
-live id first size kind label = accepted (some record { id = id; first = first; size = size; kind = kind; label = label })
+live id first size kind label = accepted (Some record { id = id; first_byte = first; size = size; kind = kind; label = label })
 
 abbrev end : Reply (Option Live)
-end = accepted none
+end = accepted None
 
 -- The code's answer is read field by field.
-live_told : reply_leak (leak.Live 3 1000 3096 2 9) ≡ live 3 1000 3096 2 9
+live_told : reply (Ok (Some record { id = 3; first_byte = 1000; size = 3096; kind = 2; label = 9 })) ≡ live 3 1000 3096 2 9
 unfolding live
 live_told = refl
 
@@ -58,7 +57,7 @@ three_walk : walk_on three 0 4 ≡ live 4 0 100 1 7 ∷ live 3 1000 3096 2 9 ∷
 unfolding live three
 three_walk = refl
 
-three_lives : map (λ (l : Live). accepted (some l)) (lives three) ≡ live 4 0 100 1 7 ∷ live 3 1000 3096 2 9 ∷ []
+three_lives : map (λ (l : Live). accepted (Some l)) (lives three) ≡ live 4 0 100 1 7 ∷ live 3 1000 3096 2 9 ∷ []
 unfolding live three
 three_lives = refl
 

@@ -35,7 +35,7 @@ lives ws = lives_of (spots [] (block_of ws).chunks)
 -- those that begin at the address or later
 abbrev pub from : ℕ → List Live → List Live
 from address [] = []
-from address (l ∷ ls) = cond (leb address l.first) (l ∷ from address ls) (from address ls)
+from address (l ∷ ls) = cond (leb address l.first_byte) (l ∷ from address ls) (from address ls)
 
 -- the sum of their sizes
 abbrev pub bytes : List Live → ℕ
@@ -46,7 +46,7 @@ bytes (l ∷ ls) = l.size + bytes ls
 abbrev pub live_at : List ℕ → ℕ → Live
 live_at ws k = record {
   id = id_at ws k;
-  first = first_byte_at ws k;
+  first_byte = first_byte_at ws k;
   size = size_at ws k;
   kind = kind_at ws k;
   label = label_at ws k;
@@ -58,7 +58,7 @@ LiveSlot ws k = Slot ws k × (kind_at ws k ≢ 0)
 
 -- one ends where the other begins, or before
 abbrev pub Before : Live → Live → Type 0
-Before x y = x.first + x.size ≤ y.first
+Before x y = x.first_byte + x.size ≤ y.first_byte
 
 -- ---- the live ones among the chunks of a list
 
@@ -80,11 +80,11 @@ in_lives (y ∷ zs) z (Memᴰ.tail m) n =
     let rest = in_lives zs z m n in
     cond_cases (Memᴰ (live_of z)) (is_free y.chunk) (λ e. rest) (λ e. Memᴰ.tail rest)
 
-lives-above : (left cs : List Chunk) (n : ℕ) → n ≤ total left → All (λ l. n ≤ l.first) (lives_of (spots left cs))
+lives-above : (left cs : List Chunk) (n : ℕ) → n ≤ total left → All (λ l. n ≤ l.first_byte) (lives_of (spots left cs))
 lives-above left [] n a = tt
 lives-above left (c ∷ cs) n a =
     let rest = lives-above (c ∷ left) cs n (omega arith) in
-    cond_cases (All (λ l. n ≤ l.first)) (is_free c) (λ e. rest) (λ e. (a, rest))
+    cond_cases (All (λ l. n ≤ l.first_byte)) (is_free c) (λ e. rest) (λ e. (a, rest))
 
 in_order : (left cs : List Chunk) → Pairwise Before (lives_of (spots left cs))
 in_order left [] = tt

@@ -1,8 +1,7 @@
 -- When a walk is refused, with which number, and where a step leaves the place. Assumes nothing.
 use Prim.Native.Nat.{ℕ, zero, suc, ◌+◌}
 use mathlib.Core.List.{List, ◌∷◌}
-use Rattle.std.specs.Prelude.{◌↔◌, ◌⊎◌, ◌≡◌, replicate}
-use Rattle.std.proofs.Math.Option.{Option, none, some}
+use Rattle.std.specs.Prelude.{◌↔◌, ◌⊎◌, ◌≡◌, replicate, Option, None, Some}
 use Rattle.std.proofs.Math.Path.{refl, ap}
 use Rattle.laws.specs.Reply.{Reply, accepted, refused}
 use Rattle.words.specs.Soundness.{Sound}
@@ -43,12 +42,12 @@ module _ (ws : List ℕ) (place : ℕ) where
   step-refused-keeps n e = ap (place_after place) e
 
   -- So does one that answers the end.
-  pub step-end-keeps : (step_on ws place).0 ≡ accepted none → (step_on ws place).1 ≡ place
+  pub step-end-keeps : (step_on ws place).0 ≡ accepted None → (step_on ws place).1 ≡ place
   unfolding step_on
   step-end-keeps e = ap (place_after place) e
 
   -- One that hands out a chunk moves the place to its end.
-  pub step-live-moves : (l : Live) → (step_on ws place).0 ≡ accepted (some l) → (step_on ws place).1 ≡ l.first + l.size
+  pub step-live-moves : (l : Live) → (step_on ws place).0 ≡ accepted (Some l) → (step_on ws place).1 ≡ l.first_byte + l.size
   unfolding step_on
   step-live-moves l e = ap (place_after place) e
 

@@ -1,7 +1,6 @@
 -- The walk, step by step, and the answers of one that hands out every chunk. Assumes nothing.
-use Rattle.std.specs.Prelude.{ℕ, zero, suc, replicate}
+use Rattle.std.specs.Prelude.{ℕ, zero, suc, replicate, Option, None, Some}
 use mathlib.Core.List.{List, [], ◌∷◌, ◌++◌, map}
-use Rattle.std.proofs.Math.Option.{Option, none, some}
 use Rattle.laws.specs.Reply.{Reply, accepted}
 use Rattle.leaks.specs.Leaks.{Live, step_on}
 
@@ -12,4 +11,4 @@ walk_on ws place (suc n) = (step_on ws place).0 ∷ walk_on ws (step_on ws place
 
 -- these chunks are handed out one by one, and then the end is answered so many times
 abbrev pub answers : List Live → ℕ → List (Reply (Option Live))
-answers ls n = map (λ (l : Live). accepted (some l)) ls ++ replicate n (accepted none)
+answers ls n = map (λ (l : Live). accepted (Some l)) ls ++ replicate n (accepted None)

@@ -1,36 +1,11 @@
 // What a step of the walk hands out.
-ghost use Rattle.std.specs.Prelude.{◌≡◌};
-ghost use Rattle.laws.specs.Reply.{number};
-ghost use Rattle.leaks.specs.Leaks.{reply_leak};
 
-#[derive(Drop)]
-pub enum Leak {
-    Live {
-        id: u64,
-        first_byte: u64,
-        size: u64,
-        kind: u64,
-        label: u64,
-    },
-    End,
-    Refused(u64),
-}
-
-impl Leak {
-    // The number given back: 0 where the step was accepted, the end among these.
-    pub fn number(self) -> u64
-        ensures { result ≡ number (reply_leak self) }
-    {
-        match self {
-            Leak::Live {
-                id: _,
-                first_byte: _,
-                size: _,
-                kind: _,
-                label: _,
-            } => 0,
-            Leak::End => 0,
-            Leak::Refused(n) => n,
-        }
-    }
+// A live chunk; its size has the padding in it.
+#[derive(Clone, Copy, Debug, PartialEq, Eq)]
+pub struct Leak {
+    pub id: u64,
+    pub first_byte: u64,
+    pub size: u64,
+    pub kind: u64,
+    pub label: u64,
 }
