@@ -1,9 +1,10 @@
 -- The struct's steps answer what steps from a place do, and its start tells what they are refused with. Assumes nothing.
-use Rattle.std.specs.Prelude.{ℕ, zero, suc, List, ◌∷◌, ◌↔◌, ◌≢◌, ◌≡◌, refl}
-use Rattle.std.proofs.Math.Option.{Option}
+use Rattle.std.specs.Prelude.{ℕ, zero, suc, List, ◌∷◌, ◌↔◌, ◌≢◌, ◌≡◌, refl, Option, None, Some}
 use Rattle.std.proofs.Common.{sym, ap}
 use Rattle.std.specs.Borrow.{Bor}
 use Rattle.laws.specs.Reply.{Reply, refused}
+use Rattle.refusals.specs.declared.Refusal.{Refusal}
+use Rattle.refusals.proofs.Refusals.{one_refusal, number-positive}
 use Rattle.words.specs.Soundness.{Sound}
 use Rattle.words.proofs.Checked.{sound-exactly}
 use Rattle.opening.specs.Fault.{no_fault, is-fit, unfit}
@@ -11,8 +12,8 @@ use Rattle.opening.specs.Look.{table_fault}
 use Rattle.opening.specs.Looked.{TableWords, table_exactly}
 use Rattle.leaks.specs.Leaks.{Live, leak_on, step_on}
 use Rattle.leaks.specs.Walked.{walk_on}
-use Rattle.leak_walk.specs.Walks.{start_of, step_of, begin_of, walk_of}
-use Rattle.leak_walk.specs.declared.Walk.{Walk}
+use Rattle.leak_walk.specs.Walks.{Walk, fault_in, seen, start_of, step_of, begin_of, walk_of}
+use Rattle.leak_walk.specs.declared.Walk as declared
 
 -- From the start the struct's steps answer what steps from address 0 on do.
 pub walk_struct : (words : Bor (List ℕ)) (n : ℕ) → walk_of (start_of words) n ≡ walk_on words.now 0 n
@@ -43,3 +44,17 @@ module _ (words : Bor (List ℕ)) where
   pub start-refused : (start_of words).fault ≢ 0 → (place : ℕ) → leak_on ws place ≡ refused (start_of words).fault
   unfolding leak_on
   start-refused n place = unfit ws _ n
+
+-- ---- what is seen of the code's walk
+
+one_fault : (a b : Option Refusal) → fault_in a ≡ fault_in b → a ≡ b
+one_fault None None e = refl
+one_fault None (Some r) e = absurd (number-positive r (sym e))
+one_fault (Some r) None e = absurd (number-positive r e)
+one_fault (Some r) (Some q) e = ap Some (one_refusal r q e)
+
+-- Two walks of which the same is seen are equal.
+pub one_walk : (v w : declared.Walk) → seen v ≡ seen w → v ≡ w
+one_walk v w e =
+    let f = one_fault v.fault w.fault (ap (λ (x : Walk). x.fault) e) in
+    λ i. record { words = (e i).words; place = (e i).place; fault = f i }

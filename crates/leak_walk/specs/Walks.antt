@@ -1,12 +1,27 @@
 -- The walk as a struct that holds the table and its own place. Assumes nothing.
-use Rattle.std.specs.Prelude.{ℕ, zero, suc, List, [], ◌∷◌}
-use Rattle.std.proofs.Math.Option.{Option}
+use Rattle.std.specs.Prelude.{ℕ, zero, suc, List, [], ◌∷◌, Option, None, Some}
 use Rattle.std.specs.Borrow.{Bor}
 use Rattle.laws.specs.Reply.{Reply}
 use Rattle.opening.specs.Look.{table_fault}
-use Rattle.leaks.specs.Leaks.{Live, reply_leak, step_on}
+use Rattle.refusals.specs.declared.Refusal.{Refusal}
+use Rattle.refusals.specs.Refusals.{number_of, reply}
+use Rattle.leaks.specs.Leaks.{Live, step_on}
 use Rattle.leak_walk.specs.declared.Begun.{Begun}
-use Rattle.leak_walk.specs.declared.Walk.{Walk}
+use Rattle.leak_walk.specs.declared.Walk as declared
+
+-- the lent table, the place, and the number that the start is refused with: 0 for nothing
+pub record Walk : Type 0 where
+  pub words : Bor (List ℕ)
+  pub place : ℕ
+  pub fault : ℕ
+
+abbrev pub fault_in : Option Refusal → ℕ
+fault_in None = 0
+fault_in (Some r) = number_of r
+
+-- the code's walk, with its refusal by the paper's number
+abbrev pub seen : declared.Walk → Walk
+seen w = record { words = w.words; place = w.place; fault = fault_in w.fault }
 
 -- a walk starts at address 0
 abbrev pub start_of : Bor (List ℕ) → Walk
@@ -21,7 +36,7 @@ abbrev pub begin_of : Bor (List ℕ) → ℕ × (Reply (Option Live) × ℕ)
 begin_of words = ((start_of words).fault, ((step_of (start_of words)).0, (step_of (start_of words)).1.place))
 
 abbrev pub begun : Begun → ℕ × (Reply (Option Live) × ℕ)
-begun b = (b.fault, (reply_leak b.leak, b.place))
+begun b = (fault_in b.fault, (reply b.leak, b.place))
 
 -- what n steps of the struct answer on an unchanged table
 abbrev pub walk_of : Walk → ℕ → List (Reply (Option Live))

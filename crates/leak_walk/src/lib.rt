@@ -2,62 +2,58 @@
 #![tactic(auto)]
 
 ghost use Rattle.std.specs.Prelude.{◌≡◌};
-ghost use Rattle.leaks.specs.Leaks.{reply_leak, step_on, stepped};
-ghost use Rattle.leak_walk.specs.Walks.{start_of, step_of, begun, begin_of};
+ghost use Rattle.refusals.specs.Refusals.{reply};
+ghost use Rattle.leaks.specs.Leaks.{step_on};
+ghost use Rattle.leak_walk.specs.Walks.{seen, start_of, step_of, begun, begin_of};
 
 use leaks::leak::Leak;
 use leaks::steps;
-use leaks::steps::Stepped;
 use opening::look;
+use refusals::Refusal;
 
-// place: an address, from which on nothing is handed out yet; fault: what the table was refused for at the start, 0 for nothing.
+// place: an address, from which on nothing is handed out yet; fault: what the table was refused for at the start.
 #[derive(Drop)]
 pub struct Walk<'a> {
     pub words: &'a [u64],
     pub place: u64,
-    pub fault: u64,
+    pub fault: Option<Refusal>,
 }
 
 pub fn start<'a>(words: &'a [u64]) -> Walk<'a>
-    ensures { result ≡ start_of words.entry }
+    ensures { seen result ≡ start_of words.entry }
 {
-    let fault = look::table_fault(words);
     Walk {
         words,
         place: 0,
-        fault,
+        fault: look::sound_table(words).err(),
     }
 }
 
-pub fn step<'s, 'a>(walk: &'s mut Walk<'a>) -> Leak
-    ensures { (reply_leak result, walk.new) ≡ step_of walk.old }
+pub fn step<'s, 'a>(walk: &'s mut Walk<'a>) -> Result<Option<Leak>, Refusal>
+    ensures { (reply result, seen walk.new) ≡ step_of (seen walk.old) }
 {
-    let done = steps::step_at(walk.words, walk.place);
-    walk.place = done.place;
-    done.leak
+    steps::step_at(walk.words, &mut walk.place)
 }
 
 // A step for a caller that keeps the place itself.
-pub fn step_from(words: &[u64], place: u64) -> Stepped
-    ensures { stepped result ≡ step_on words.now place }
+pub fn step_from(words: &[u64], place: &mut u64) -> Result<Option<Leak>, Refusal>
+    ensures { (reply result, place.new) ≡ step_on words.now place.old }
 {
     let mut walk = Walk {
         words,
-        place,
-        fault: 0,
+        place: *place,
+        fault: None,
     };
     let leak = step(&mut walk);
-    Stepped {
-        leak,
-        place: walk.place,
-    }
+    *place = walk.place;
+    leak
 }
 
-// What a walk begins with: what its start is refused for, 0 for nothing, and its first step.
+// What a walk begins with: what its start is refused for, and its first step.
 #[derive(Drop)]
 pub struct Begun {
-    pub fault: u64,
-    pub leak: Leak,
+    pub fault: Option<Refusal>,
+    pub leak: Result<Option<Leak>, Refusal>,
     pub place: u64,
 }
 

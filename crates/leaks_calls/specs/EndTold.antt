@@ -1,7 +1,6 @@
 -- How the end of the walk is told at the boundary. Assumes nothing.
-use Rattle.std.specs.Prelude.{ℕ, List, ◌↔◌, ◌≡◌, refl, get_or}
+use Rattle.std.specs.Prelude.{ℕ, List, ◌↔◌, ◌≡◌, refl, get_or, Option, None, Some}
 use Rattle.std.proofs.Common.{arith, ⊎_elim, sym, ◌∙◌}
-use Rattle.std.proofs.Math.Option.{Option, none, some}
 use Rattle.laws.specs.Reply.{Reply, accepted, refused, not_refused}
 use Rattle.leaks.proofs.Handed.{leak_id}
 use Rattle.leaks.specs.Leaks.{Live, step_on}
@@ -13,12 +12,12 @@ abbrev pub NoChunk : ℕ × ℕ × List ℕ → Type 0
 NoChunk out = (out.0 ≡ 0) × (get_or out.2 0 0 ≡ 0)
 
 -- The number 0 with an id of 0 is answered exactly at the end.
-pub end-told : (ws : List ℕ) (place : ℕ) → NoChunk (leak_out (step_on ws place)) ↔ (step_on ws place).0 ≡ accepted none
+pub end-told : (ws : List ℕ) (place : ℕ) → NoChunk (leak_out (step_on ws place)) ↔ (step_on ws place).0 ≡ accepted None
 end-told ws place = go (step_on ws place).0 refl
   where
-    go : (r : Reply (Option Live)) → (step_on ws place).0 ≡ r → NoChunk (leak_out (r, (step_on ws place).1)) ↔ r ≡ accepted none
-    go (accepted none) e = (λ h. refl, λ h. (refl, refl))
-    go (accepted (some l)) e = (
+    go : (r : Reply (Option Live)) → (step_on ws place).0 ≡ r → NoChunk (leak_out (r, (step_on ws place).1)) ↔ r ≡ accepted None
+    go (accepted None) e = (λ h. refl, λ h. (refl, refl))
+    go (accepted (Some l)) e = (
       λ h. absurd (omega (arith, leak_id ws place l (sym (step-answers ws place) ∙ e), h.1)),
       λ h. let z : ◌≡◌ {A = ℕ} 0 1 = cc in absurd (omega arith),
     )

@@ -1,6 +1,5 @@
 -- The leak walk at the boundary: the numbers and words that stand for what is handed out. Assumes nothing.
-use Rattle.std.specs.Prelude.{ℕ, List, [], ◌∷◌}
-use Rattle.std.proofs.Math.Option.{Option, none, some}
+use Rattle.std.specs.Prelude.{ℕ, List, [], ◌∷◌, Option, None, Some}
 use Rattle.laws.specs.Reply.{Reply, accepted, refused, number}
 use Rattle.opening.specs.Look.{table_fault}
 use Rattle.leaks.specs.Leaks.{Live}
@@ -11,8 +10,8 @@ start_out ws = (table_fault ws, 0)
 
 -- the five words of a live chunk: zeros at the end and on a refusal
 abbrev pub leak_words : Reply (Option Live) → List ℕ
-leak_words (accepted (some l)) = l.id ∷ l.first ∷ l.size ∷ l.kind ∷ l.label ∷ []
-leak_words (accepted none) = 0 ∷ 0 ∷ 0 ∷ 0 ∷ 0 ∷ []
+leak_words (accepted (Some l)) = l.id ∷ l.first_byte ∷ l.size ∷ l.kind ∷ l.label ∷ []
+leak_words (accepted None) = 0 ∷ 0 ∷ 0 ∷ 0 ∷ 0 ∷ []
 leak_words (refused n) = 0 ∷ 0 ∷ 0 ∷ 0 ∷ 0 ∷ []
 
 -- the number given back, which is 0 at the end too, the place after the step, and the words

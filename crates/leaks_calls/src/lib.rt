@@ -14,7 +14,7 @@ pub extern "C" fn lunkaseyo_leaks_start(words: &[u64], place: &mut u64) -> u64
     ensures { (result, place.new) ≡ start_out words.now }
 {
     *place = 0;
-    look::table_fault(words)
+    refusals::number(&look::sound_table(words))
 }
 
 // An id of 0 with the number 0 tells the end of the walk: no live chunk has that id.
@@ -22,20 +22,20 @@ pub extern "C" fn lunkaseyo_leaks_start(words: &[u64], place: &mut u64) -> u64
 pub extern "C" fn lunkaseyo_leaks_step(words: &[u64], place: &mut u64, leak: &mut [u64; 5]) -> u64
     ensures { (result, place.new, leak.new) ≡ leak_out (step_on words.now place.old) }
 {
-    let done = leak_walk::step_from(words, *place);
-    *place = done.place;
-    let answer = done.leak;
-    let Leak::Live {
-        id,
-        first_byte,
-        size,
-        kind,
-        label,
-    } = answer
-    else {
-        *leak = [0; 5];
-        return answer.number();
+    let answer = leak_walk::step_from(words, place);
+    *leak = match answer {
+        Ok(
+            Some(
+                Leak {
+                    id,
+                    first_byte,
+                    size,
+                    kind,
+                    label,
+                },
+            ),
+        ) => [id, first_byte, size, kind, label],
+        _ => [0; 5],
     };
-    *leak = [id, first_byte, size, kind, label];
-    0
+    refusals::number(&answer)
 }
