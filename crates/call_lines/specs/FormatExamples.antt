@@ -1,5 +1,5 @@
 -- The paper's lines, and lines at the format's edges, by computing. Assumes nothing.
-use Rattle.std.specs.Prelude.{ℕ, ◌-◌, ◌^◌, List, [], ◌∷◌, ◌≡◌, refl}
+use Rattle.std.specs.Prelude.{ℕ, ◌-◌, ◌^◌, List, [], ◌∷◌, ◌≡◌, refl, Some}
 use Prim.Native.String.{String}
 use Rattle.std.proofs.Math.Option.{Option, none, some}
 use Rattle.laws.specs.Letters.{bytes}
@@ -9,7 +9,7 @@ use Rattle.model.specs.Runs.Call.{allocate, free}
 use Rattle.call_lines.specs.Format.{Asked, cut, ended, lines, fields, all_digits, number_of, numbers_of, asked_by, asked_in, read_line}
 use Rattle.call_lines.specs.Format.Asked.{new, call}
 use Rattle.call_lines.specs.Asked.{asked_of}
-use Rattle.call_lines.specs.declared.asked.Asked.TheVariants as asked
+use Rattle.call_lines.specs.declared.asked.Call.TheVariants as asked
 
 -- what a line asks for, open to computing
 line : String → Option Asked
@@ -40,11 +40,11 @@ unfolding line
 freed = refl
 
 -- The code asks for them with its numbers in the same order.
-opened-asked : asked_of (asked.New 4096 8) ≡ line "n 4096 8"
+opened-asked : asked_of (Some (asked.New 4096 8)) ≡ line "n 4096 8"
 unfolding line
 opened-asked = refl
 
-second_asked : asked_of (asked.Allocate 256 64 2 1024 8) ≡ line "a 256 64 2 1024 8"
+second_asked : asked_of (Some (asked.Allocate (record { size = 256; alignment = 64; kind = 2; granularity = 1024; label = 8 }))) ≡ line "a 256 64 2 1024 8"
 unfolding line
 second_asked = refl
 

@@ -1,17 +1,18 @@
 -- On the way to `ReadLaws`: a line into which whole numbers are pushed, and what it asks for. Assumes nothing.
-use Rattle.std.specs.Prelude.{ℕ, Bool, true, false, cond, List, [], ◌∷◌, ◌≡◌, refl, eqb, leb, length}
-use Rattle.std.proofs.Common.{true≢false, sym, ap, ◌∙◌, arith, ne_eqb}
+use Rattle.std.specs.Prelude.{ℕ, Bool, true, false, cond, List, [], ◌∷◌, ◌≡◌, refl, eqb, length}
+use Rattle.std.proofs.Common.{true≢false, sym, ap, ◌∙◌, arith, eqb-true, ne_eqb}
 use Rattle.std.proofs.Math.Option.{Option, none, some}
 use Rattle.laws.specs.Every.{every}
 use Rattle.laws.specs.Tests.{cond_cases, cond_same}
 use Rattle.call_lines.specs.Format.{Asked, with_first, cut, number_of, with_number, numbers_of, asked_by, asked_with}
-use Rattle.call_lines.specs.Reading.{unreadable, lettered, numbered, spaced, with_space, is_letter, is_asking, asked}
+use Rattle.call_lines.specs.Reading.{unreadable, lettered, numbered, spaced, takes_digit, with_space, is_letter, letter_of, is_read, is_asking, asked}
 use Rattle.call_lines.specs.ReadSteps.{number_from, numbers_from}
+use Rattle.call_lines.specs.declared.line.Letter.TheVariants as letters
 use Rattle.call_lines.specs.declared.line.Line.{Line}
 
 -- a whole number where one may begin
 unfoldable pub filled : Line → ℕ → Line
-filled l n = cond (leb 3 l.stage) (numbered l n) unreadable
+filled l n = cond (takes_digit l.stage) (numbered l n) unreadable
 
 -- a space and a number, for each
 unfoldable pub pushed : Line → List ℕ → Line
@@ -78,6 +79,28 @@ numbers_cut P c (b ∷ s) h =
 
 -- ---- after the letter
 
+-- The letter of a byte is read as one of the three exactly where the byte is that one's.
+read_new : (b : ℕ) → is_read (letter_of b) letters.New ≡ eqb b 110
+unfolding letter_of
+read_new b =
+    cond_cases (λ o. is_read o letters.New ≡ eqb b 110) (eqb b 110) (λ e. sym e)
+    (λ n. cond_cases (λ o. is_read o letters.New ≡ eqb b 110) (eqb b 97) (λ e. sym n)
+    (λ m. cond_cases (λ o. is_read o letters.New ≡ eqb b 110) (eqb b 102) (λ e. sym n) (λ e. sym n)))
+
+read_allocate : (b : ℕ) → is_read (letter_of b) letters.Allocate ≡ eqb b 97
+unfolding letter_of
+read_allocate b =
+    cond_cases (λ o. is_read o letters.Allocate ≡ eqb b 97) (eqb b 110) (λ e. sym (ne_eqb b 97 (λ q. omega (arith, eqb-true b 110 e))))
+    (λ n. cond_cases (λ o. is_read o letters.Allocate ≡ eqb b 97) (eqb b 97) (λ e. sym e)
+    (λ m. cond_cases (λ o. is_read o letters.Allocate ≡ eqb b 97) (eqb b 102) (λ e. sym m) (λ e. sym m)))
+
+read_free : (b : ℕ) → is_read (letter_of b) letters.Free ≡ eqb b 102
+unfolding letter_of
+read_free b =
+    cond_cases (λ o. is_read o letters.Free ≡ eqb b 102) (eqb b 110) (λ e. sym (ne_eqb b 102 (λ q. omega (arith, eqb-true b 110 e))))
+    (λ n. cond_cases (λ o. is_read o letters.Free ≡ eqb b 102) (eqb b 97) (λ e. sym (ne_eqb b 102 (λ q. omega (arith, eqb-true b 97 e))))
+    (λ m. cond_cases (λ o. is_read o letters.Free ≡ eqb b 102) (eqb b 102) (λ e. sym e) (λ e. sym e)))
+
 -- No form has so many numbers.
 no_form : (letter : ℕ) (ns : List ℕ) → (length ns ≡ 2 → ⊥) → (length ns ≡ 5 → ⊥) → (length ns ≡ 1 → ⊥) → asked_by letter ns ≡ none
 unfolding asked_by every
@@ -95,11 +118,11 @@ no_form letter ns two five one =
 pub letter_pushed : (letter : ℕ) (ns : List ℕ) → asked (pushed (lettered letter) ns) ≡ asked_by letter ns
 unfolding pushed filled with_space asked is_asking asked_by every
 letter_pushed letter [] = sym (no_form letter [] (λ e. omega arith) (λ e. omega arith) (λ e. omega arith))
-letter_pushed letter (a ∷ []) = rw (cond_same (eqb letter 110) false, cond_same (eqb letter 97) false)
-letter_pushed letter (a ∷ b ∷ []) = rw (cond_same (eqb letter 97) false, cond_same (eqb letter 102) false)
-letter_pushed letter (a ∷ b ∷ c ∷ []) = rw (cond_same (eqb letter 110) false, cond_same (eqb letter 97) false, cond_same (eqb letter 102) false)
-letter_pushed letter (a ∷ b ∷ c ∷ d ∷ []) = rw (cond_same (eqb letter 110) false, cond_same (eqb letter 97) false, cond_same (eqb letter 102) false)
-letter_pushed letter (a ∷ b ∷ c ∷ d ∷ e ∷ []) = rw (cond_same (eqb letter 110) false, cond_same (eqb letter 102) false)
+letter_pushed letter (a ∷ []) = rw (read_new letter, read_allocate letter, read_free letter, cond_same (eqb letter 110) false, cond_same (eqb letter 97) false)
+letter_pushed letter (a ∷ b ∷ []) = rw (read_new letter, read_allocate letter, read_free letter, cond_same (eqb letter 97) false, cond_same (eqb letter 102) false)
+letter_pushed letter (a ∷ b ∷ c ∷ []) = rw (read_new letter, read_allocate letter, read_free letter, cond_same (eqb letter 110) false, cond_same (eqb letter 97) false, cond_same (eqb letter 102) false)
+letter_pushed letter (a ∷ b ∷ c ∷ d ∷ []) = rw (read_new letter, read_allocate letter, read_free letter, cond_same (eqb letter 110) false, cond_same (eqb letter 97) false, cond_same (eqb letter 102) false)
+letter_pushed letter (a ∷ b ∷ c ∷ d ∷ e ∷ []) = rw (read_new letter, read_allocate letter, read_free letter, cond_same (eqb letter 110) false, cond_same (eqb letter 102) false)
 letter_pushed letter (a ∷ b ∷ c ∷ d ∷ e ∷ f ∷ ns) =
     unreadable-pushed ns ∙ sym (no_form letter (a ∷ b ∷ c ∷ d ∷ e ∷ f ∷ ns) (λ e. omega arith) (λ e. omega arith) (λ e. omega arith))
 

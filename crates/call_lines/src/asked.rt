@@ -1,17 +1,10 @@
 // What a line asks for.
-#[derive(Drop)]
-pub enum Asked {
-    New {
-        size: u64,
-        slots: u64,
-    },
-    Allocate {
-        size: u64,
-        alignment: u64,
-        kind: u64,
-        granularity: u64,
-        label: u64,
-    },
+use sub_allocator::request::Request;
+
+// A block of a size with so many slots, or a call on the block at hand.
+#[derive(Clone, Copy, Debug, PartialEq, Eq)]
+pub enum Call {
+    New { size: u64, slots: u64 },
+    Allocate(Request),
     Free(u64),
-    Unreadable,
 }

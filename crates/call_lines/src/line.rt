@@ -1,37 +1,76 @@
 // What was read of a line, a byte at a time, and what the line asks for where it ends.
-ghost use Rattle.std.specs.Prelude.{◌≡◌, ◌≤◌};
+ghost use Rattle.std.specs.Prelude.{◌≡◌};
+ghost use Rattle.std.specs.Option.{unwrap_or};
 ghost use Rattle.call_lines.specs.Asked.{asked_of};
-ghost use Rattle.call_lines.specs.Reading.{fresh, unreadable, is_letter, with_digit, with_space, with_letter, fed, is_asking, asked, is_begun};
+ghost use Rattle.call_lines.specs.Reading.{fresh, unreadable, takes_digit, takes_space, with_digit, with_space, with_letter, fed, asked, is_begun};
 
-use crate::asked::Asked;
+use crate::asked::Call;
+use sub_allocator::request::Request;
 
-#[derive(Clone, Copy)]
+// What came last.
+#[derive(Clone, Copy, Debug, Default, PartialEq, Eq)]
+enum Stage {
+    #[default]
+    Nothing,
+    Letter,
+    Digit,
+    Space,
+    Unreadable,
+}
+
+impl Stage {
+    // A number goes on, or begins.
+    fn takes_digit(self) -> bool
+        ensures { result ≡ takes_digit self }
+    {
+        matches!(self, Stage::Digit | Stage::Space)
+    }
+
+    // The letter stands alone, or a number is whole.
+    fn takes_space(self) -> bool
+        ensures { result ≡ takes_space self }
+    {
+        matches!(self, Stage::Letter | Stage::Digit)
+    }
+}
+
+// What a line begins with.
+#[derive(Clone, Copy, Debug, PartialEq, Eq)]
+enum Letter {
+    New,
+    Allocate,
+    Free,
+}
+
+impl TryFrom<u8> for Letter {
+    ghost use Rattle.std.specs.Prelude.{◌≡◌};
+    ghost use Rattle.std.specs.Result.{result_ok};
+    ghost use Rattle.call_lines.specs.Reading.{letter_of};
+
+    type Error = ();
+
+    ghost try_from_gives = { λ byte answer. result_ok answer ≡ letter_of byte };
+
+    #[tactic(auto, unfolding(crate::specs::Reading::letter_of))]
+    fn try_from(byte: u8) -> Result<Letter, ()> {
+        match byte {
+            b'n' => Ok(Letter::New),
+            b'a' => Ok(Letter::Allocate),
+            b'f' => Ok(Letter::Free),
+            _ => Err(()),
+        }
+    }
+}
+
+#[derive(Clone, Copy, Debug, Default, PartialEq, Eq)]
 pub struct Line {
-    // What came last: 0 nothing yet, 2 the letter, 3 a digit, 4 a space; 1 once the line is unreadable.
-    stage: u64,
-    letter: u64,
+    stage: Stage,
+    letter: Option<Letter>,
     // How many numbers were begun.
     count: u64,
     // The four numbers before the present one, the latest last, and its value so far.
-    a: u64,
-    b: u64,
-    c: u64,
-    d: u64,
+    before: [u64; 4],
     value: u64,
-}
-
-// "n", "a" and "f" begin a line.
-#[tactic(auto, unfolding(crate::specs::Reading::is_letter))]
-fn is_letter(byte: u8) -> bool
-    ensures { result ≡ is_letter byte }
-{
-    if byte == b'n' {
-        return true;
-    }
-    if byte == b'a' {
-        return true;
-    }
-    byte == b'f'
 }
 
 impl Line {
@@ -39,25 +78,17 @@ impl Line {
     pub fn new() -> Line
         ensures { result ≡ fresh }
     {
-        Line {
-            stage: 0,
-            letter: 0,
-            count: 0,
-            a: 0,
-            b: 0,
-            c: 0,
-            d: 0,
-            value: 0,
-        }
+        Line::default()
     }
 
     // What no further byte makes readable.
     fn unreadable() -> Line
         ensures { result ≡ unreadable }
     {
-        let mut line = Line::new();
-        line.stage = 1;
-        line
+        Line {
+            stage: Stage::Unreadable,
+            ..Line::default()
+        }
     }
 
     // One byte more, which is not a line feed.
@@ -65,117 +96,88 @@ impl Line {
     pub fn fed(self, byte: u8) -> Line
         ensures { result ≡ fed self byte }
     {
-        if byte < b'0' {
-            if byte == b' ' {
-                return self.with_space();
-            }
-            return Line::unreadable();
-        }
-        if b'9' < byte {
-            return self.with_letter(byte);
-        }
-        self.with_digit((byte - b'0') as u64)
+        let next = match byte {
+            b'0'..=b'9' => self.with_digit(byte - b'0'),
+            b' ' => self.with_space(),
+            _ => self.with_letter(byte),
+        };
+        next.unwrap_or_else(Line::unreadable)
     }
 
     // The number at hand goes on, while it fits a word.
     #[tactic(auto, unfolding(crate::specs::Reading::with_digit, laws::specs::Every::every))]
-    fn with_digit(self, digit: u64) -> Line
-        requires { digit ≤ 9 }
-        ensures { result ≡ with_digit self digit }
+    fn with_digit(self, digit: u8) -> Option<Line>
+        ensures { unwrap_or result unreadable ≡ with_digit self digit }
     {
-        if self.stage < 3 {
-            return Line::unreadable();
+        if !self.stage.takes_digit() {
+            return None;
         }
-        if (u64::MAX - digit) / 10 < self.value {
-            return Line::unreadable();
-        }
-        let mut line = self;
-        line.stage = 3;
-        line.value = self.value * 10 + digit;
-        line
+        let value = self.value.checked_mul(10)?.checked_add(u64::from(digit))?;
+        Some(Line {
+            stage: Stage::Digit,
+            value,
+            ..self
+        })
     }
 
     // The number at hand is whole, and the next begins.
     #[tactic(auto, unfolding(crate::specs::Reading::with_space, laws::specs::Every::every))]
-    fn with_space(self) -> Line
-        ensures { result ≡ with_space self }
+    fn with_space(self) -> Option<Line>
+        ensures { unwrap_or result unreadable ≡ with_space self }
     {
-        if self.stage < 2 {
-            return Line::unreadable();
+        if !self.stage.takes_space() || 5 <= self.count {
+            return None;
         }
-        if 3 < self.stage {
-            return Line::unreadable();
-        }
-        if 5 <= self.count {
-            return Line::unreadable();
-        }
-        Line {
-            stage: 4,
-            letter: self.letter,
+        let [_, b, c, d] = self.before;
+        Some(Line {
+            stage: Stage::Space,
             count: self.count + 1,
-            a: self.b,
-            b: self.c,
-            c: self.d,
-            d: self.value,
+            before: [b, c, d, self.value],
             value: 0,
-        }
+            ..self
+        })
     }
 
     // A letter is the first byte.
-    #[tactic(auto, unfolding(crate::specs::Reading::with_letter, laws::specs::Every::every))]
-    fn with_letter(self, byte: u8) -> Line
-        ensures { result ≡ with_letter self byte }
+    #[tactic(auto, unfolding(crate::specs::Reading::with_letter, crate::specs::Reading::is_begun, crate::specs::Reading::is_letter, crate::specs::Reading::letter_of, laws::specs::Every::every))]
+    fn with_letter(self, byte: u8) -> Option<Line>
+        ensures { unwrap_or result unreadable ≡ with_letter self byte }
     {
-        if self.stage != 0 {
-            return Line::unreadable();
+        if self.is_begun() {
+            return None;
         }
-        if !is_letter(byte) {
-            return Line::unreadable();
-        }
-        let mut line = Line::new();
-        line.stage = 2;
-        line.letter = byte as u64;
-        line
+        let letter = Letter::try_from(byte).ok()?;
+        Some(Line {
+            stage: Stage::Letter,
+            letter: Some(letter),
+            ..Line::default()
+        })
     }
 
-    // The line ends in a number, after this letter and so many numbers.
-    #[tactic(auto, unfolding(crate::specs::Reading::is_asking, laws::specs::Every::every))]
-    fn is_asking(self, letter: u8, count: u64) -> bool
-        ensures { result ≡ is_asking self letter count }
-    {
-        if self.stage != 3 {
-            return false;
-        }
-        if self.letter != letter as u64 {
-            return false;
-        }
-        self.count == count
-    }
-
-    // The line ends here: what it asks for.
-    #[tactic(auto, unfolding(crate::specs::Reading::asked))]
-    pub fn asked(self) -> Asked
+    // The line ends here: what it asks for, unless it is unreadable.
+    #[tactic(auto, unfolding(crate::specs::Reading::asked, crate::specs::Reading::is_asking, laws::specs::Every::every))]
+    pub fn asked(self) -> Option<Call>
         ensures { asked_of result ≡ asked self }
     {
-        if self.is_asking(b'n', 2) {
-            return Asked::New {
-                size: self.d,
+        if self.stage != Stage::Digit {
+            return None;
+        }
+        let [a, b, c, d] = self.before;
+        match (self.letter?, self.count) {
+            (Letter::New, 2) => Some(Call::New {
+                size: d,
                 slots: self.value,
-            };
-        }
-        if self.is_asking(b'a', 5) {
-            return Asked::Allocate {
-                size: self.a,
-                alignment: self.b,
-                kind: self.c,
-                granularity: self.d,
+            }),
+            (Letter::Allocate, 5) => Some(Call::Allocate(Request {
+                size: a,
+                alignment: b,
+                kind: c,
+                granularity: d,
                 label: self.value,
-            };
+            })),
+            (Letter::Free, 1) => Some(Call::Free(self.value)),
+            _ => None,
         }
-        if self.is_asking(b'f', 1) {
-            return Asked::Free(self.value);
-        }
-        Asked::Unreadable
     }
 
     // Whether the line has a byte.
@@ -183,6 +185,6 @@ impl Line {
     pub fn is_begun(self) -> bool
         ensures { result ≡ is_begun self }
     {
-        self.stage != 0
+        self.stage != Stage::Nothing
     }
 }
