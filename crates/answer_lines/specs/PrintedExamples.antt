@@ -1,11 +1,10 @@
 -- The paper's printed lines, by computing. Assumes nothing.
-use Rattle.std.specs.Prelude.{ℕ, ◌-◌, ◌^◌, List, ◌≡◌, refl, length}
+use Rattle.std.specs.Prelude.{ℕ, ◌-◌, ◌^◌, List, ◌≡◌, refl, length, Some}
 use Rattle.std.proofs.Math.Option.{Option, none, some}
 use Rattle.laws.specs.Decimal.{decimal, decimal_in}
 use Rattle.laws.specs.Letters.{bytes}
 use Rattle.model.specs.Lines.{Line, line}
 use Rattle.answer_lines.specs.Printed.{printed, answer_of, longest}
-use Rattle.answer_lines.specs.declared.Answer.TheVariants as answer
 
 -- what is printed, open to computing
 text : Option Line → List ℕ
@@ -38,5 +37,5 @@ unfolding text
 full = refl
 
 -- The code's numbers are those of a line, in their order.
-told : answer_of (answer.Line 0 1024 3 1280) ≡ some (line 0 1024 3 1280)
+told : answer_of (Some (record { number = 0; offset = 1024; id = 3; allocated = 1280 })) ≡ some (line 0 1024 3 1280)
 told = refl
