@@ -10,7 +10,7 @@ ghost use Rattle.answer_lines.specs.Stored.{Stored};
 use decimal_text;
 
 // What a line is answered, where it can be read.
-#[derive(Clone, Copy, Debug, PartialEq, Eq)]
+#[derive(Clone, Copy, Debug, Default, PartialEq, Eq)]
 pub struct Answer {
     pub number: u64,
     pub offset: u64,

@@ -1,80 +1,78 @@
 // The step of the text program: what a line asks for is done on the block at hand, in the first words of a store.
 #![tactic(auto)]
 
-ghost use Rattle.std.specs.Prelude.{◌≡◌, ◌≤◌, length, take};
+ghost use Rattle.std.specs.Prelude.{◌≡◌, ◌≤◌, length, take, Some};
 ghost use Rattle.model.specs.Runs.Call.{allocate, free as freeCall};
 ghost use Rattle.table.specs.Layout.{most_words};
 ghost use Rattle.opening.specs.Look.{table_fault};
 ghost use Rattle.opening.specs.Questions.{allocated_on};
+ghost use Rattle.refusals.specs.Refusals.{fault_of};
 ghost use Rattle.sub_allocator.specs.Requests.{request_of};
 ghost use Rattle.block.specs.Runs.{told};
 ghost use Rattle.call_lines.specs.Asked.{asked_of};
 ghost use Rattle.answer_lines.specs.Printed.{answer_of};
-ghost use Rattle.bench_step.specs.Step.{fault_told, line_after, new_answered, call_answered, answered, stored};
+ghost use Rattle.bench_step.specs.Step.{fault_told, line_after, new_answered, answered, stored};
 
 use answer_lines::Answer;
-use call_lines::asked::Asked;
+use call_lines::asked::Call;
 use giving_back;
 use opening::creation;
 use placing;
-use sub_allocator::answers::Placement;
+use refusals;
+use refusals::Refusal;
 use sub_allocator::request::Request;
 use table::layout;
+use table::layout::HeadField;
 use words::ranges;
 
-// What a line is answered, and how many words the block at hand has then: 0 where there is none.
-#[derive(Drop)]
+// What a line is answered, and how many words the block at hand has then: none where there is no block.
+#[derive(Clone, Copy, Debug, PartialEq, Eq)]
 pub struct Stepped {
-    pub answer: Answer,
+    pub answer: Option<Answer>,
     pub lent: usize,
 }
 
-// The bytes allocated after a call that answered this number. It has looked at the table, so that is not done again.
-fn total_after(words: &[u64], number: u64) -> u64
-    requires { table_fault words.now ≡ fault_told number }
+// The bytes allocated after a call that answered so. It has looked at the table, so that is not done again.
+fn total_after<T>(words: &[u64], answer: &Result<T, Refusal>) -> u64
+    requires { table_fault words.now ≡ fault_told (fault_of answer.now) }
     ensures { result ≡ told (allocated_on words.now) }
 {
-    if number == 1 {
-        return 0;
+    match answer {
+        Err(Refusal::WordCount | Refusal::Unsound) => 0,
+        _ => layout::head(words, HeadField::Allocated),
     }
-    if number == 2 {
-        return 0;
-    }
-    layout::allocated(words)
 }
 
 fn allocate_answer(words: &mut [u64], request: Request) -> Answer
-    ensures { (answer_of result, words.new) ≡ line_after (allocate (request_of request)) words.old }
+    ensures { (answer_of (Some result), words.new) ≡ line_after (allocate (request_of request)) words.old }
 {
-    let answer = placing::allocate(words, request);
-    let number = answer.number();
-    let allocated = total_after(words, number);
-    let Placement::Placed { offset, id } = answer else {
-        return Answer::Line {
-            number,
+    let placed = placing::allocate(words, request);
+    let allocated = total_after(words, &placed);
+    match placed {
+        Ok(placement) => Answer {
+            number: 0,
+            offset: placement.offset,
+            id: placement.id,
+            allocated,
+        },
+        Err(refusal) => Answer {
+            number: u64::from(refusal),
             offset: 0,
             id: 0,
             allocated,
-        };
-    };
-    Answer::Line {
-        number: 0,
-        offset,
-        id,
-        allocated,
+        },
     }
 }
 
 fn free_answer(words: &mut [u64], id: u64) -> Answer
-    ensures { (answer_of result, words.new) ≡ line_after (freeCall id) words.old }
+    ensures { (answer_of (Some result), words.new) ≡ line_after (freeCall id) words.old }
 {
-    let number = giving_back::free(words, id).number();
-    let allocated = total_after(words, number);
-    Answer::Line {
-        number,
+    let freed = giving_back::free(words, id);
+    Answer {
+        number: refusals::number(&freed),
         offset: 0,
         id: 0,
-        allocated,
+        allocated: total_after(words, &freed),
     }
 }
 
@@ -84,80 +82,39 @@ fn new_step(store: &mut [u64], lent: usize, size: u64, slots: u64) -> Stepped
     ensures { (answer_of result.answer, result.lent, store.new) ≡ stored store.old (new_answered size slots (take lent store.old)) }
 {
     if !ranges::is_up_to(layout::MOST_SLOTS, slots) {
-        return Stepped {
-            answer: Answer::Unread,
-            lent,
-        };
+        return Stepped { answer: None, lent };
     }
     let end = layout::word_count(slots);
-    let number = creation::new(&mut store[..end], size).number();
-    let answer = Answer::Line {
-        number,
-        offset: 0,
-        id: 0,
-        allocated: 0,
-    };
-    if number != 0 {
-        return Stepped { answer, lent: 0 };
+    match creation::new(&mut store[..end], size) {
+        Ok(()) => Stepped {
+            answer: Some(Answer::default()),
+            lent: end,
+        },
+        Err(refusal) => Stepped {
+            answer: Some(Answer {
+                number: u64::from(refusal),
+                ..Answer::default()
+            }),
+            lent: 0,
+        },
     }
-    Stepped { answer, lent: end }
 }
 
-fn allocate_step(store: &mut [u64], lent: usize, request: Request) -> Stepped
-    requires { lent ≤ length store.old }
-    ensures { (answer_of result.answer, result.lent, store.new) ≡ stored store.old (call_answered (allocate (request_of request)) (take lent store.old)) }
-{
-    if lent == 0 {
-        return Stepped {
-            answer: Answer::Unread,
-            lent,
-        };
-    }
-    let answer = allocate_answer(&mut store[..lent], request);
-    Stepped { answer, lent }
-}
-
-fn free_step(store: &mut [u64], lent: usize, id: u64) -> Stepped
-    requires { lent ≤ length store.old }
-    ensures { (answer_of result.answer, result.lent, store.new) ≡ stored store.old (call_answered (freeCall id) (take lent store.old)) }
-{
-    if lent == 0 {
-        return Stepped {
-            answer: Answer::Unread,
-            lent,
-        };
-    }
-    let answer = free_answer(&mut store[..lent], id);
-    Stepped { answer, lent }
-}
-
-pub fn step(store: &mut [u64], lent: usize, asked: Asked) -> Stepped
+// The store is lent for the step alone, and the block outlives it: so `lent` stands beside it, and is kept by the caller.
+pub fn step(store: &mut [u64], lent: usize, call: Option<Call>) -> Stepped
     requires { (most_words ≤ length store.old) × (lent ≤ length store.old) }
-    ensures { (answer_of result.answer, result.lent, store.new) ≡ stored store.old (answered (asked_of asked) (take lent store.old)) }
+    ensures { (answer_of result.answer, result.lent, store.new) ≡ stored store.old (answered (asked_of call) (take lent store.old)) }
 {
-    match asked {
-        Asked::New { size, slots } => new_step(store, lent, size, slots),
-        Asked::Allocate {
-            size,
-            alignment,
-            kind,
-            granularity,
-            label,
-        } => allocate_step(
-            store,
-            lent,
-            Request {
-                size,
-                alignment,
-                kind,
-                granularity,
-                label,
-            },
-        ),
-        Asked::Free(id) => free_step(store, lent, id),
-        Asked::Unreadable => Stepped {
-            answer: Answer::Unread,
+    match call {
+        Some(Call::New { size, slots }) => new_step(store, lent, size, slots),
+        Some(Call::Allocate(request)) if lent > 0 => Stepped {
+            answer: Some(allocate_answer(&mut store[..lent], request)),
             lent,
         },
+        Some(Call::Free(id)) if lent > 0 => Stepped {
+            answer: Some(free_answer(&mut store[..lent], id)),
+            lent,
+        },
+        _ => Stepped { answer: None, lent },
     }
 }
