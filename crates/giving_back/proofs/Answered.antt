@@ -1,5 +1,5 @@
 -- What a call answers for the live chunk with an id. Assumes nothing.
-use Prim.Native.Nat.{ℕ}
+use Prim.Native.Nat.{ℕ, zero, suc}
 use mathlib.Core.Bool.{true}
 use mathlib.Core.List.{List}
 use native.Mathlib.Omega.{arith}
@@ -19,8 +19,13 @@ use Rattle.search.specs.Live.{live_slot, live-none, live-some}
 use Rattle.chunks.specs.Premises.{LiveIn}
 use Rattle.chunks.specs.Steps.{relabelled}
 use Rattle.opening.specs.Look.{on_table, table_fault}
+use Rattle.search.specs.Slots.{some_slot}
 use Rattle.giving_back.specs.GivingBack.{changes, slot_found, found_on, free_on, rename_on, Bounded}
-use Rattle.opening.specs.Fault.{is-fit, unfit, on-block}
+use Rattle.opening.specs.Fault.{is-fit, unfit, on-block, turned-away}
+use Rattle.std.specs.Prelude.{ok_or}
+use Rattle.refusals.specs.declared.Refusal.{Refusal}
+use Rattle.refusals.specs.declared.Refusal.TheVariants.{UnknownId}
+use Rattle.refusals.specs.Refusals.{number_of, reply}
 
 -- what is known of a chunk that was found
 pub record FoundLive (ws : List ℕ) (id k : ℕ) : Type 0 where
@@ -37,27 +42,39 @@ same j k e = cc
 module _ (ws : List ℕ) (id : ℕ) where
   -- ---- looking for it
 
-  pub not-looked : table_fault ws ≢ 0 → refused (table_fault ws) ≡ found_on ws id
+  not-looked : table_fault ws ≢ 0 → refused (table_fault ws) ≡ found_on ws id
   unfolding found_on
   not-looked n = sym (unfit ws (λ b. slot_found (find_live id b)) n)
+
+  pub not_looked : (r : Refusal) → number_of r ≡ table_fault ws → refused (number_of r) ≡ found_on ws id
+  unfolding found_on
+  not_looked = turned-away ws (λ b. slot_found (find_live id b))
 
   module _ (t : is_table ws ≡ true) (s : sound ws ≡ true) where
     looked : found_on ws id ≡ slot_found (find_live id (block_of ws))
     unfolding found_on
     looked = on-block ws (λ b. slot_found (find_live id b)) t s
 
-    pub not_found : live_slot ws id ≡ 0 → refused 10 ≡ found_on ws id
+    not_found : live_slot ws id ≡ 0 → refused 10 ≡ found_on ws id
     not_found e = sym (looked ∙ ap slot_found (live-none ws s id e))
 
-    pub was-found : live_slot ws id ≢ 0 → accepted (live_slot ws id) ≡ found_on ws id
+    was-found : live_slot ws id ≢ 0 → accepted (live_slot ws id) ≡ found_on ws id
     was-found n =
         let f = live-some ws s id n in
         sym (looked ∙ ap slot_found f.1 ∙ ap accepted f.2.slot)
 
+    -- what is answered, as the search for it says
+    pub found_told : reply (ok_or (some_slot (live_slot ws id)) UnknownId) ≡ found_on ws id
+    found_told = told (live_slot ws id) refl
+      where
+        told : (n : ℕ) → live_slot ws id ≡ n → reply (ok_or (some_slot n) UnknownId) ≡ found_on ws id
+        told zero e = not_found e
+        told (suc n) e = ap accepted (sym e) ∙ was-found (λ (z : live_slot ws id ≡ 0). let y : suc n ≡ 0 = sym e ∙ z in absurd cc)
+
   -- ---- what comes of it
 
-  pub found-live : (k : ℕ) → accepted k ≡ found_on ws id → FoundLive ws id k
-  found-live k e =
+  pub found_live : (k : ℕ) → accepted k ≡ found_on ws id → FoundLive ws id k
+  found_live k e =
       ⊎_elim (λ z. let f = is-fit ws z in here f.0 f.1) (λ n. absurd (not_refused (e ∙ sym (not-looked n))))
       (eq_or_not (table_fault ws) 0)
     where
@@ -104,21 +121,21 @@ module _ (ws : List ℕ) (id : ℕ) where
 
   -- ---- the two calls
 
-  pub free-refused : (n : ℕ) → refused n ≡ found_on ws id → (refused n, ws) ≡ free_on ws id
+  pub free_refused : (n : ℕ) → refused n ≡ found_on ws id → (refused n, ws) ≡ free_on ws id
   unfolding free_on release
-  free-refused = refused-too release_at (λ b. refl)
+  free_refused = refused-too release_at (λ b. refl)
 
-  pub free-done : (k : ℕ) (h : FoundLive ws id k) (ws' : List ℕ) → ws' ≡ encode (with_chunks (block_of ws) (freed h.spot))
+  pub free_done : (k : ℕ) (h : FoundLive ws id k) (ws' : List ℕ) → ws' ≡ encode (with_chunks (block_of ws) (freed h.spot))
       → (accepted tt, ws') ≡ free_on ws id
   unfolding free_on release
-  free-done k h ws' = done-too release_at k h (with_chunks (block_of ws) (freed h.spot)) ws' refl
+  free_done k h ws' = done-too release_at k h (with_chunks (block_of ws) (freed h.spot)) ws' refl
 
   module _ (label : ℕ) where
-    pub rename-refused : (n : ℕ) → refused n ≡ found_on ws id → (refused n, ws) ≡ rename_on ws id label
+    pub rename_refused : (n : ℕ) → refused n ≡ found_on ws id → (refused n, ws) ≡ rename_on ws id label
     unfolding rename_on rename
-    rename-refused = refused-too (rename_at label) (λ b. refl)
+    rename_refused = refused-too (rename_at label) (λ b. refl)
 
-    pub rename-done : (k : ℕ) (h : FoundLive ws id k) (ws' : List ℕ) → ws' ≡ encode (relabelled label h.spot (block_of ws))
+    pub rename_done : (k : ℕ) (h : FoundLive ws id k) (ws' : List ℕ) → ws' ≡ encode (relabelled label h.spot (block_of ws))
         → (accepted tt, ws') ≡ rename_on ws id label
     unfolding rename_on rename relabelled
-    rename-done k h ws' = done-too (rename_at label) k h (relabelled label h.spot (block_of ws)) ws' refl
+    rename_done k h ws' = done-too (rename_at label) k h (relabelled label h.spot (block_of ws)) ws' refl

@@ -5,7 +5,9 @@ use mathlib.Core.Bool.{Bool, true, false, cond}
 use mathlib.Core.List.{List, [], ◌∷◌, reverse_aux}
 use mathlib.Core.Logic.{◌≢◌}
 use mathlib.Core.Path.{◌≡◌, refl, sym, ap, ◌∙◌}
-use borrow.Author.Tests.{eq-eqb, ne_eqb}
+use Rattle.std.specs.Prelude.{eqb}
+use Rattle.std.proofs.Common.{subst, eq-eqb, eqb-true, ne_eqb}
+use Rattle.std.proofs.lemmas.Bool.{eqb-false}
 use Rattle.laws.specs.Cuts.{cut_all, swap-all, drop_all}
 use Rattle.laws.specs.Lists.{All}
 use Rattle.laws.specs.Tests.{cond_cases}
@@ -16,7 +18,9 @@ use Rattle.model.specs.GivingBack.{grown, merge_left, merge_right, freed}
 use Rattle.model.specs.Placing.{with_chunks}
 use Rattle.model.specs.Sums.{total-cut, allocated-cut}
 use Rattle.model.proofs.Totals.{replaced-total, live_size_lem}
-use Rattle.table.specs.Layout.{Slot, slot_count, allocated_word, size_at, kind_at, next_at, previous_at}
+use Rattle.table.specs.Layout.{Slot, allocated_word, size_at, kind_at, next_at, previous_at}
+use Rattle.table.specs.declared.layout.Field.{Field}
+use Rattle.table.specs.Named.{field_at}
 use Rattle.words.specs.Laid.{Laid}
 use Rattle.words.proofs.Laid.{block_back}
 use Rattle.words.specs.Spots.{InSlot}
@@ -26,8 +30,11 @@ use Rattle.pieces.proofs.JoinedWords.{taken-place, free_laid, joined-laid}
 use Rattle.chunks.specs.Premises.{FreeIn, LiveIn, TwoFree}
 use Rattle.chunks.specs.Sides.{next-within, allocated-of-table}
 use Rattle.chunks.specs.Steps.{set_free}
+use Rattle.pieces.specs.Premises.{CanJoin}
 use Rattle.pieces.specs.Steps.{joined}
-use Rattle.giving_back.specs.GivingBack.{next_taken, join_next, join_previous, Bounded}
+use Rattle.giving_back.specs.GivingBack.{next_taken, join_next, join_previous, join_beside, link_of, left_of, Bounded}
+use Rattle.giving_back.specs.declared.Side.{Side}
+use Rattle.giving_back.specs.declared.Side.TheVariants as side
 
 -- a free chunk is labelled 0
 abbrev Unnamed : Chunk → Type 0
@@ -50,8 +57,7 @@ pair_bytes b h left c d right cut =
 -- what joining two free chunks requires
 joins : {ws : List ℕ} {k : ℕ} {left : List Chunk} {c d : Chunk} {right : List Chunk} → Bounded (block_of ws)
     → TwoFree ws k left c d right
-    → Slot ws k × Slot ws (next_at ws k) × (next_at ws (next_at ws k) ≤ slot_count ws)
-    × (size_at ws k + size_at ws (next_at ws k) < 2 ^ 64)
+    → CanJoin ws k
 joins {ws} {k} {left} {c} {d} {right} h f =
     let p = taken-place f in (
       in_table ws k _ f.place,
@@ -66,17 +72,17 @@ module _ (ws : List ℕ) (k : ℕ) (left : List Chunk) (c : Chunk) where
   abbrev here : List Chunk → Spot
   here right = record { left = left; chunk = c; right = right }
 
-  pub no-next : (right : List Chunk) → FreeIn ws k (here right) → next_at ws k ≡ 0
+  no-next : (right : List Chunk) → FreeIn ws k (here right) → next_at ws k ≡ 0
       → ws ≡ encode (join_next (here right) (block_of ws))
   unfolding join_next
   no-next [] f e = unmerged f.place
   no-next (d ∷ right) f e = absurd (omega (arith, e, (in_table ws (next_at ws k) _ (after-in f.place)).0))
 
-  pub next-held : (right : List Chunk) → FreeIn ws k (here right) → next_at ws k ≢ 0 → Slot ws (next_at ws k)
+  next-held : (right : List Chunk) → FreeIn ws k (here right) → next_at ws k ≢ 0 → Slot ws (next_at ws k)
   next-held [] f n = absurd (n (in_words f.place).next)
   next-held (d ∷ right) f n = in_table ws (next_at ws k) _ (after-in f.place)
 
-  pub next-live : (right : List Chunk) → FreeIn ws k (here right) → next_at ws k ≢ 0 → kind_at ws (next_at ws k) ≢ 0
+  next-live : (right : List Chunk) → FreeIn ws k (here right) → next_at ws k ≢ 0 → kind_at ws (next_at ws k) ≢ 0
       → ws ≡ encode (join_next (here right) (block_of ws))
   unfolding join_next
   next-live [] f n l = absurd (n (in_words f.place).next)
@@ -93,14 +99,12 @@ module _ (ws : List ℕ) (k : ℕ) (left : List Chunk) (c : Chunk) where
     next_free = sym (in_words (after-in f.place)).kind ∙ e;
   }
 
-  pub next-joins : (right : List Chunk) → FreeIn ws k (here right) → Bounded (block_of ws) → next_at ws k ≢ 0
-      → kind_at ws (next_at ws k) ≡ 0
-      → Slot ws k × Slot ws (next_at ws k) × (next_at ws (next_at ws k) ≤ slot_count ws)
-      × (size_at ws k + size_at ws (next_at ws k) < 2 ^ 64)
+  next-joins : (right : List Chunk) → FreeIn ws k (here right) → Bounded (block_of ws) → next_at ws k ≢ 0
+      → kind_at ws (next_at ws k) ≡ 0 → CanJoin ws k
   next-joins [] f h n e = absurd (n (in_words f.place).next)
   next-joins (d ∷ right) f h n e = joins h (two d right f e)
 
-  pub next-joined : (right : List Chunk) (ws' : List ℕ) → FreeIn ws k (here right) → next_at ws k ≢ 0
+  next-joined : (right : List Chunk) (ws' : List ℕ) → FreeIn ws k (here right) → next_at ws k ≢ 0
       → kind_at ws (next_at ws k) ≡ 0
       → ((l : List Chunk) (a b : Chunk) (r : List Chunk) → TwoFree ws k l a b r → ws' ≡ encode (joined l a b r (block_of ws)))
       → ws' ≡ encode (join_next (here right) (block_of ws))
@@ -117,18 +121,18 @@ module _ (ws : List ℕ) (k : ℕ) (c : Chunk) (right : List Chunk) where
   abbrev there : List Chunk → Spot
   there left = record { left = left; chunk = c; right = right }
 
-  pub no-previous : (left : List Chunk) → FreeIn ws k (there left) → previous_at ws k ≡ 0
+  no-previous : (left : List Chunk) → FreeIn ws k (there left) → previous_at ws k ≡ 0
       → ws ≡ encode (join_previous (there left) (block_of ws))
   unfolding join_previous
   no-previous [] f e = unmerged f.place
   no-previous (p ∷ left) f e =
       absurd (omega (arith, e, (in_table ws (previous_at ws k) _ (before-in f.place)).0))
 
-  pub previous-held : (left : List Chunk) → FreeIn ws k (there left) → previous_at ws k ≢ 0 → Slot ws (previous_at ws k)
+  previous-held : (left : List Chunk) → FreeIn ws k (there left) → previous_at ws k ≢ 0 → Slot ws (previous_at ws k)
   previous-held [] f n = absurd (n (in_words f.place).previous)
   previous-held (p ∷ left) f n = in_table ws (previous_at ws k) _ (before-in f.place)
 
-  pub previous-live : (left : List Chunk) → FreeIn ws k (there left) → previous_at ws k ≢ 0
+  previous-live : (left : List Chunk) → FreeIn ws k (there left) → previous_at ws k ≢ 0
       → kind_at ws (previous_at ws k) ≢ 0 → ws ≡ encode (join_previous (there left) (block_of ws))
   unfolding join_previous
   previous-live [] f n l = absurd (n (in_words f.place).previous)
@@ -149,15 +153,12 @@ module _ (ws : List ℕ) (k : ℕ) (c : Chunk) (right : List Chunk) where
         next_free = f.free;
       }
 
-  pub previous-joins : (left : List Chunk) → FreeIn ws k (there left) → Bounded (block_of ws) → previous_at ws k ≢ 0
-      → kind_at ws (previous_at ws k) ≡ 0
-      → Slot ws (previous_at ws k) × Slot ws (next_at ws (previous_at ws k))
-      × (next_at ws (next_at ws (previous_at ws k)) ≤ slot_count ws)
-      × (size_at ws (previous_at ws k) + size_at ws (next_at ws (previous_at ws k)) < 2 ^ 64)
+  previous-joins : (left : List Chunk) → FreeIn ws k (there left) → Bounded (block_of ws) → previous_at ws k ≢ 0
+      → kind_at ws (previous_at ws k) ≡ 0 → CanJoin ws (previous_at ws k)
   previous-joins [] f h n e = absurd (n (in_words f.place).previous)
   previous-joins (p ∷ left) f h n e = joins h (pair p left f h e)
 
-  pub previous-joined : (left : List Chunk) (ws' : List ℕ) → FreeIn ws k (there left) → Bounded (block_of ws)
+  previous-joined : (left : List Chunk) (ws' : List ℕ) → FreeIn ws k (there left) → Bounded (block_of ws)
       → previous_at ws k ≢ 0 → kind_at ws (previous_at ws k) ≡ 0
       → ((l : List Chunk) (a b : Chunk) (r : List Chunk) → TwoFree ws (previous_at ws k) l a b r
       → ws' ≡ encode (joined l a b r (block_of ws)))
@@ -168,6 +169,73 @@ module _ (ws : List ℕ) (k : ℕ) (c : Chunk) (right : List Chunk) where
       let t = pair p left f h e in
       let q : is_free p ≡ true = eq-eqb p.kind 0 t.free in
       j left p c right t ∙ rw q
+
+-- ---- the neighbour on either side
+
+module _ (ws : List ℕ) (k : ℕ) (z : Spot) (h : FreeIn ws k z) where
+  abbrev beside_at : Side → ℕ
+  beside_at s = field_at (link_of s) ws k
+
+  none : (s : Side) → beside_at s ≡ 0 → ws ≡ encode (join_beside s z (block_of ws))
+  none side.Next = no-next ws k z.left z.chunk z.right h
+  none side.Previous = no-previous ws k z.chunk z.right z.left h
+
+  held : (s : Side) → beside_at s ≢ 0 → Slot ws (beside_at s)
+  held side.Next = next-held ws k z.left z.chunk z.right h
+  held side.Previous = previous-held ws k z.chunk z.right z.left h
+
+  live : (s : Side) → beside_at s ≢ 0 → kind_at ws (beside_at s) ≢ 0 → ws ≡ encode (join_beside s z (block_of ws))
+  live side.Next = next-live ws k z.left z.chunk z.right h
+  live side.Previous = previous-live ws k z.chunk z.right z.left h
+
+  both : (s : Side) → Bounded (block_of ws) → beside_at s ≢ 0 → kind_at ws (beside_at s) ≡ 0
+      → CanJoin ws (left_of s k (beside_at s))
+  both side.Next = next-joins ws k z.left z.chunk z.right h
+  both side.Previous = previous-joins ws k z.chunk z.right z.left h
+
+  one : (s : Side) (ws' : List ℕ) → Bounded (block_of ws) → beside_at s ≢ 0 → kind_at ws (beside_at s) ≡ 0
+      → ((l : List Chunk) (a b : Chunk) (r : List Chunk) → TwoFree ws (left_of s k (beside_at s)) l a b r
+      → ws' ≡ encode (joined l a b r (block_of ws)))
+      → ws' ≡ encode (join_beside s z (block_of ws))
+  one side.Next ws' b = next-joined ws k z.left z.chunk z.right ws' h
+  one side.Previous ws' b = previous-joined ws k z.chunk z.right z.left ws' h b
+
+  -- n is what the code reads: the slot of the neighbour
+  module _ (s : Side) (f : Field) (n : ℕ) (link : f ≡ link_of s) (read : n ≡ field_at f ws k) where
+    n-is : n ≡ beside_at s
+    n-is = read ∙ ap (λ (f : Field). field_at f ws k) link
+
+    pub beside-none : n ≡ 0 → ws ≡ encode (join_beside s z (block_of ws))
+    beside-none e = none s (sym n-is ∙ e)
+
+    module _ (some : n ≢ 0) where
+      some-is : beside_at s ≢ 0
+      some-is e = some (n-is ∙ e)
+
+      pub beside-held : Slot ws n
+      beside-held = rw n-is (held s some-is)
+
+      pub beside-live : eqb (kind_at ws n) 0 ≡ false → ws ≡ encode (join_beside s z (block_of ws))
+      beside-live e = live s some-is (λ z. eqb-false _ _ e (ap (kind_at ws) n-is ∙ z))
+
+      module _ (b : Bounded (block_of ws)) (free : eqb (kind_at ws n) 0 ≡ true) (m : ℕ) (left : m ≡ left_of s k n) where
+        kind-is : kind_at ws (beside_at s) ≡ 0
+        kind-is = sym (ap (kind_at ws) n-is) ∙ eqb-true _ _ free
+
+        m-is : m ≡ left_of s k (beside_at s)
+        m-is = left ∙ ap (left_of s k) n-is
+
+        pub beside-joins : CanJoin ws m
+        beside-joins = subst (CanJoin ws) (sym m-is) (both s b some-is kind-is)
+
+        pub beside-joined : (ws' : List ℕ)
+            → ((l : List Chunk) (a b : Chunk) (r : List Chunk) → TwoFree ws m l a b r
+            → ws' ≡ encode (joined l a b r (block_of ws)))
+            → ws' ≡ encode (join_beside s z (block_of ws))
+        beside-joined ws' j =
+            one s ws' b some-is kind-is
+            (subst (λ (m : ℕ). (l : List Chunk) (a b : Chunk) (r : List Chunk) → TwoFree ws m l a b r
+            → ws' ≡ encode (joined l a b r (block_of ws))) m-is j)
 
 -- ---- from one step to the next
 

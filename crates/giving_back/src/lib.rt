@@ -2,68 +2,62 @@
 #![tactic(auto)]
 
 ghost use Rattle.std.specs.Prelude.{◌≡◌};
-ghost use Rattle.laws.specs.Reply.{number};
 ghost use Rattle.model.specs.Block.{Spot};
 ghost use Rattle.model.specs.GivingBack.{freed};
 ghost use Rattle.model.specs.Placing.{with_chunks};
 ghost use Rattle.words.specs.Words.{encode, block_of};
 ghost use Rattle.chunks.specs.Premises.{FreeIn, LiveIn};
-ghost use Rattle.sub_allocator.specs.Answers.{reply_changed};
-ghost use Rattle.giving_back.specs.GivingBack.{reply_found, found_on, free_on, rename_on, join_next, join_previous, FreeHere, LiveHere};
+ghost use Rattle.refusals.specs.Refusals.{reply};
+ghost use Rattle.giving_back.specs.GivingBack.{found_on, free_on, rename_on, link_of, left_of, join_beside, FreeHere, LiveHere};
 
 use chunks::{labels, taking};
 use opening::look;
 use pieces::joining;
+use refusals::Refusal;
 use search::live;
-use sub_allocator::answers::Changed;
 use table::layout;
+use table::layout::Field;
 
-// Where the live chunk with an id is.
-#[derive(Drop)]
-enum Found {
-    At(u64),
-    Refused(u64),
+// One of the two neighbours of a chunk.
+#[derive(Clone, Copy)]
+enum Side {
+    Next,
+    Previous,
 }
 
-impl Found {
-    fn number(self) -> u64
-        ensures { result ≡ number (reply_found self) }
+impl Side {
+    // The word that says in which slot this neighbour is.
+    fn link(self) -> Field
+        ensures { result ≡ link_of self }
     {
         match self {
-            Found::At(_) => 0,
-            Found::Refused(n) => n,
+            Side::Next => Field::Next,
+            Side::Previous => Field::Previous,
+        }
+    }
+
+    // Of slot k and of this neighbour of it in slot n, the one on the left.
+    fn left(self, k: u64, n: u64) -> u64
+        ensures { result ≡ left_of self k n }
+    {
+        match self {
+            Side::Next => k,
+            Side::Previous => n,
         }
     }
 }
 
-// A free next chunk is merged into the free chunk in slot k.
-fn join_next(words: &mut [u64], k: u64)
+// The free chunk in slot k and the neighbour on this side become one, if that is free too.
+fn join_beside(words: &mut [u64], k: u64, side: Side)
     requires { FreeHere words.old k }
-    ensures { (z : Spot) → FreeIn words.old k z → words.new ≡ encode (join_next z (block_of words.old)) }
+    ensures { (z : Spot) → FreeIn words.old k z → words.new ≡ encode (join_beside side z (block_of words.old)) }
 {
-    let n = layout::next(words, k);
-    if n == 0 {
+    // a link of 0 is none, as the table has it: an Option would be made and at once taken apart
+    let n = layout::word(words, k, side.link());
+    if n == 0 || !layout::is_free(words, n) {
         return;
     }
-    if layout::kind(words, n) != 0 {
-        return;
-    }
-    joining::join(words, k);
-}
-
-// The free chunk in slot k is merged into a free previous one.
-fn join_previous(words: &mut [u64], k: u64)
-    requires { FreeHere words.old k }
-    ensures { (z : Spot) → FreeIn words.old k z → words.new ≡ encode (join_previous z (block_of words.old)) }
-{
-    let p = layout::previous(words, k);
-    if p == 0 {
-        return;
-    }
-    if layout::kind(words, p) != 0 {
-        return;
-    }
-    joining::join(words, p);
+    joining::join(words, side.left(k, n));
 }
 
 // The live chunk in slot k becomes free, and one with its free neighbours.
@@ -72,43 +66,31 @@ fn give_back(words: &mut [u64], k: u64)
     ensures { (z : Spot) → LiveIn words.old k z → words.new ≡ encode (with_chunks (block_of words.old) (freed z)) }
 {
     taking::set_free(words, k);
-    join_next(words, k);
-    join_previous(words, k);
+    join_beside(words, k, Side::Next);
+    join_beside(words, k, Side::Previous);
 }
 
 // The slot of the live chunk with this id.
-fn find(words: &[u64], id: u64) -> Found
-    ensures { reply_found result ≡ found_on words.now id }
+#[tactic(auto, using(crate::proofs::Answered::not_looked, crate::proofs::Answered::found_told))]
+fn find(words: &[u64], id: u64) -> Result<u64, Refusal>
+    ensures { reply result ≡ found_on words.now id }
 {
-    let unfit = look::table_fault(words);
-    if unfit != 0 {
-        return Found::Refused(unfit);
-    }
-    let k = live::find_live(words, id);
-    if k == 0 {
-        return Found::Refused(10);
-    }
-    Found::At(k)
+    let table = look::sound_table(words)?;
+    live::find_live(table, id).ok_or(Refusal::UnknownId)
 }
 
-pub fn free(words: &mut [u64], id: u64) -> Changed
-    ensures { (reply_changed result, words.new) ≡ free_on words.old id }
+pub fn free(words: &mut [u64], id: u64) -> Result<(), Refusal>
+    ensures { (reply result, words.new) ≡ free_on words.old id }
 {
-    let found = find(words, id);
-    let Found::At(k) = found else {
-        return Changed::Refused(found.number());
-    };
+    let k = find(words, id)?;
     give_back(words, k);
-    Changed::Done
+    Ok(())
 }
 
-pub fn rename_allocation(words: &mut [u64], id: u64, label: u64) -> Changed
-    ensures { (reply_changed result, words.new) ≡ rename_on words.old id label }
+pub fn rename_allocation(words: &mut [u64], id: u64, label: u64) -> Result<(), Refusal>
+    ensures { (reply result, words.new) ≡ rename_on words.old id label }
 {
-    let found = find(words, id);
-    let Found::At(k) = found else {
-        return Changed::Refused(found.number());
-    };
+    let k = find(words, id)?;
     labels::relabel(words, k, label);
-    Changed::Done
+    Ok(())
 }

@@ -1,20 +1,13 @@
 -- `giving_back::free` meets its contract. Assumes nothing.
-use Rattle.std.proofs.Common.{sym, ap, ◌∙◌}
-use Rattle.giving_back.specs.GivingBack.{reply_found}
-use Rattle.giving_back.proofs.Answered.{found-live, free-refused, free-done}
+use Rattle.std.proofs.Common.{rules}
+use Rattle.giving_back.proofs.Answered.{found_live, free_refused, free_done}
 use Rattle.giving_back.proofs.free.Goals as goal
 
-pub returns-in_default : goal.returns-in_default
-returns-in_default c =
-    rw (c.number.ensures, c.in_default.is)
-    (free-refused _ _ _ (ap reply_found (sym c.in_default.is) ∙ c.find-found.ensures))
+pub returns-in_err-k : goal.returns-in_err-k
+returns-in_err-k c = search (rules, free_refused)
 
 pub give_back-requires : goal.give_back-requires
-give_back-requires c =
-    let f = found-live _ _ _ (ap reply_found (sym c.in-At.is) ∙ c.find-found.ensures) in
-    ((f.spot, f.live), f.bounded)
+give_back-requires c = let h = found_live _ _ _ c.in_ok-k.ensures in ((h.spot, h.live), h.bounded)
 
 pub returns : goal.returns
-returns c =
-    let f = found-live _ _ _ (ap reply_found (sym c.in-At.is) ∙ c.find-found.ensures) in
-    free-done _ _ _ f _ (c.give_back.ensures f.spot f.live)
+returns c = let h = found_live _ _ _ c.in_ok-k.ensures in free_done _ _ _ h _ (c.give_back.ensures h.spot h.live)
