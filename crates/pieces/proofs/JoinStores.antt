@@ -7,6 +7,7 @@ use mathlib.Core.Path.{◌≡◌, sym, ap, ◌∙◌}
 use lib.ListN.{get_or, set}
 use Rattle.model.specs.Block.{Chunk}
 use Rattle.table.specs.Layout.{slot_count, Slot, size_at, next_at, at, row, empty_row}
+use Rattle.stores.specs.declared.Row.{Row}
 use Rattle.stores.specs.Stores.{set_row, OnlySlot, nothing, stored, row_written}
 use Rattle.words.specs.Words.{encode, block_of}
 use Rattle.words.proofs.Spots.{in_table}
@@ -18,9 +19,18 @@ use Rattle.pieces.specs.Steps.{joined}
 use Rattle.pieces.specs.Stores.{previous_of_set}
 use Rattle.pieces.proofs.LinkStores.{PreviousTold, previous_told}
 
+-- the row of an empty slot
+abbrev pub no_row : Row
+no_row = record { id = 0; size = 0; first_byte = 0; kind = 0; label = 0; next = 0; previous = 0 }
+
+pub all_zeros : {r : Row} → r.id ≡ 0 → r.size ≡ 0 → r.first_byte ≡ 0 → r.kind ≡ 0 → r.label ≡ 0 → r.next ≡ 0 → r.previous ≡ 0
+    → r ≡ no_row
+all_zeros id size first kind label next previous =
+    λ i. record { id = id i; size = size i; first_byte = first i; kind = kind i; label = label i; next = next i; previous = previous i }
+
 -- the slot after slot k is emptied
 abbrev emptied : List ℕ → ℕ → List ℕ
-emptied ws k = set_row ws (next_at ws k) 0 0 0 0 0 0 0
+emptied ws k = set_row ws (next_at ws k) no_row
 
 -- then the chunk in slot k is longer, and the slot after both comes next
 abbrev lengthened : List ℕ → ℕ → List ℕ
@@ -36,7 +46,7 @@ module _ (ws : List ℕ) (k : ℕ) (s : Slot ws k) (t : Slot ws (next_at ws k)) 
     (f : next_at ws k ≢ k) (g : next_at ws (next_at ws k) ≢ next_at ws k) (m : next_at ws (next_at ws k) ≢ k) where
   -- the three steps
   empty : OnlySlot ws (emptied ws k) (next_at ws k) empty_row
-  empty = row_written ws (next_at ws k) 0 0 0 0 0 0 0 t
+  empty = row_written ws (next_at ws k) no_row t
 
   longer : OnlySlot (emptied ws k) (lengthened ws k) k
       (set (set (row (emptied ws k) k) 1 (size_at ws k + size_at ws (next_at ws k))) 5 (next_at ws (next_at ws k)))

@@ -9,6 +9,7 @@ use lib.ListN.{length, get_or, set, length-set}
 use lib.Seq.{get_or-set_same, get_or-set_other}
 use Rattle.model.specs.Block.{Spot}
 use Rattle.table.specs.Layout.{slot_count, Slot, allocated_word, next_id, size_at, first_byte_at, previous_at, row}
+use Rattle.stores.specs.declared.Row.{Row}
 use Rattle.stores.specs.Stores.{set_row, OnlySlot, nothing, stored, row-head_set, row_written}
 use Rattle.words.specs.Words.{encode, block_of}
 use Rattle.words.proofs.Spots.{in_table}
@@ -24,10 +25,22 @@ use Rattle.pieces.proofs.LinkStores.{NextTold, next_told}
 abbrev counted : List ℕ → ℕ → List ℕ
 counted ws n = let vs = set ws 2 (next_id ws + 1) in set vs 1 (allocated_word vs + n)
 
--- then the new slot is written, and linked from the slot before
+-- the new slot's words
+abbrev piece_row : List ℕ → ℕ → ℕ → ℕ → ℕ → Row
+piece_row ws k n kind label = record {
+  id = next_id ws;
+  size = n;
+  first_byte = first_byte_at ws k;
+  kind = kind;
+  label = label;
+  next = k;
+  previous = previous_at ws k;
+}
+
+-- then it is written, and linked from the slot before
 abbrev linked_in : List ℕ → ℕ → ℕ → ℕ → ℕ → ℕ → List ℕ
 linked_in ws k new n kind label =
-    next_of_set (set_row (counted ws n) new (next_id ws) n (first_byte_at ws k) kind label k (previous_at ws k)) (previous_at ws k) new
+    next_of_set (set_row (counted ws n) new (piece_row ws k n kind label)) (previous_at ws k) new
 
 -- then the remainder begins later
 abbrev split_stores : List ℕ → ℕ → ℕ → ℕ → ℕ → ℕ → List ℕ
@@ -76,16 +89,16 @@ shortened-row ws k first size new s =
 module _ (ws : List ℕ) (k new n kind label : ℕ) (s : Slot ws k) (t : Slot ws new) (l : previous_at ws k ≤ slot_count ws)
     (f : new ≢ k) (g : previous_at ws k ≢ k) (m : previous_at ws k ≢ new) where
   -- the three steps
-  piece : OnlySlot (counted ws n) (set_row (counted ws n) new (next_id ws) n (first_byte_at ws k) kind label k (previous_at ws k)) new
+  piece : OnlySlot (counted ws n) (set_row (counted ws n) new (piece_row ws k n kind label)) new
       (next_id ws ∷ n ∷ first_byte_at ws k ∷ kind ∷ label ∷ k ∷ previous_at ws k ∷ [])
   piece =
-      row_written (counted ws n) new (next_id ws) n (first_byte_at ws k) kind label k (previous_at ws k) (rw (counted-length ws n) t)
+      row_written (counted ws n) new (piece_row ws k n kind label) (rw (counted-length ws n) t)
 
-  link : NextTold (set_row (counted ws n) new (next_id ws) n (first_byte_at ws k) kind label k (previous_at ws k))
+  link : NextTold (set_row (counted ws n) new (piece_row ws k n kind label))
       (linked_in ws k new n kind label) (previous_at ws k) new
   link =
       let e = piece.count ∙ counted-length ws n in
-      next_told (set_row (counted ws n) new (next_id ws) n (first_byte_at ws k) kind label k (previous_at ws k)) (previous_at ws k) new
+      next_told (set_row (counted ws n) new (piece_row ws k n kind label)) (previous_at ws k) new
       (omega arith) (rw e l)
 
   rest : OnlySlot (linked_in ws k new n kind label) (split_stores ws k new n kind label) k
@@ -96,7 +109,7 @@ module _ (ws : List ℕ) (k new n kind label : ℕ) (s : Slot ws k) (t : Slot ws
 
   -- a slot that is not the new one is as before until it is linked
   before-link : (i : ℕ) → 1 ≤ i → i ≢ new
-      → row (set_row (counted ws n) new (next_id ws) n (first_byte_at ws k) kind label k (previous_at ws k)) i ≡ row ws i
+      → row (set_row (counted ws n) new (piece_row ws k n kind label)) i ≡ row ws i
   before-link i q x = piece.others i q x ∙ counted-row ws n i
 
   head-split : (j : ℕ) → j < 3 → get_or (split_stores ws k new n kind label) j 0 ≡ get_or (counted ws n) j 0

@@ -3,17 +3,24 @@ use Rattle.std.specs.Prelude.{ℕ, ◌≤◌, ◌<◌, List, [], ◌∷◌, ◌�
 use Rattle.std.proofs.Common.{arith, ⊎_elim, sym, ap, ◌∙◌, length-set, ext_get_or, get_or-set_same, get_or-set_other}
 use Rattle.laws.specs.Members.{eq_or_not}
 use Rattle.table.specs.Layout.{Slot, at, row, row_word}
+use Rattle.stores.specs.declared.Row.{Row}
 
--- ---- the words of slot k written over, its front first
+-- ---- the words of slot k written over
 
-unfoldable pub set_front : List ℕ → ℕ → ℕ → ℕ → ℕ → ℕ → List ℕ
-set_front ws k id size first kind = set (set (set (set ws (at k 0) id) (at k 1) size) (at k 2) first) (at k 3) kind
+-- the words of a row, in their order
+abbrev pub words_of : Row → List ℕ
+words_of r = r.id ∷ r.size ∷ r.first_byte ∷ r.kind ∷ r.label ∷ r.next ∷ r.previous ∷ []
 
-unfoldable pub set_back : List ℕ → ℕ → ℕ → ℕ → ℕ → List ℕ
-set_back ws k label next previous = set (set (set ws (at k 4) label) (at k 5) next) (at k 6) previous
-
-unfoldable pub set_row : List ℕ → ℕ → ℕ → ℕ → ℕ → ℕ → ℕ → ℕ → ℕ → List ℕ
-set_row ws k id size first kind label next previous = set_back (set_front ws k id size first kind) k label next previous
+-- slot k has that row, whatever it had
+unfoldable pub set_row : List ℕ → ℕ → Row → List ℕ
+set_row ws k r =
+    let ws1 = set ws (at k 0) r.id in
+    let ws2 = set ws1 (at k 1) r.size in
+    let ws3 = set ws2 (at k 2) r.first_byte in
+    let ws4 = set ws3 (at k 3) r.kind in
+    let ws5 = set ws4 (at k 4) r.label in
+    let ws6 = set ws5 (at k 5) r.next in
+    set ws6 (at k 6) r.previous
 
 -- a store at a place that is not of slot k leaves the slot's words
 row_kept : (ws : List ℕ) (n v k : ℕ) → ((f : ℕ) → f < 7 → at k f ≢ n) → row (set ws n v) k ≡ row ws k
@@ -74,15 +81,13 @@ stored {ws} {ws'} {k} s h j v l = record {
 }
 
 -- A row written over is the seven words.
-pub row_written : (ws : List ℕ) (k id size first kind label next previous : ℕ) → Slot ws k
-    → OnlySlot ws (set_row ws k id size first kind label next previous) k
-    (id ∷ size ∷ first ∷ kind ∷ label ∷ next ∷ previous ∷ [])
-unfolding set_row set_front set_back
-row_written ws k id size first kind label next previous s =
-    let h0 = stored s (nothing ws k) 0 id (omega arith) in
-    let h1 = stored s h0 1 size (omega arith) in
-    let h2 = stored s h1 2 first (omega arith) in
-    let h3 = stored s h2 3 kind (omega arith) in
-    let h4 = stored s h3 4 label (omega arith) in
-    let h5 = stored s h4 5 next (omega arith) in
-    stored s h5 6 previous (omega arith)
+pub row_written : (ws : List ℕ) (k : ℕ) (r : Row) → Slot ws k → OnlySlot ws (set_row ws k r) k (words_of r)
+unfolding set_row
+row_written ws k r s =
+    let h0 = stored s (nothing ws k) 0 r.id (omega arith) in
+    let h1 = stored s h0 1 r.size (omega arith) in
+    let h2 = stored s h1 2 r.first_byte (omega arith) in
+    let h3 = stored s h2 3 r.kind (omega arith) in
+    let h4 = stored s h3 4 r.label (omega arith) in
+    let h5 = stored s h4 5 r.next (omega arith) in
+    stored s h5 6 r.previous (omega arith)
