@@ -1,30 +1,30 @@
 // The chunk that is chosen for a request: the smallest that holds it, the lowest address among equals.
 ghost use Rattle.std.specs.Prelude.{◌≡◌, ◌+◌, ◌^◌, ◌<◌};
 ghost use Rattle.sub_allocator.specs.Requests.{request_of};
-ghost use Rattle.search.specs.Held.{HeldIn};
 ghost use Rattle.search.specs.Best.{best_slot, better_at};
 ghost use Rattle.search.specs.Slots.{some_slot};
 
 use crate::fit;
+use crate::held::Held;
 use sub_allocator::request::WellFormed;
 use table::layout;
 use table::layout::Field;
 use words::sound::SoundTable;
 
-// Whether the chunk in slot k holds the request and is smaller than the best so far, which has so many bytes to spare.
-fn is_better(table: SoundTable, k: u64, spare: u64, request: WellFormed) -> bool
-    requires { HeldIn table.words.now k × (spare + request.request.size < 2 ^ 64) }
-    ensures { result ≡ better_at table.entry.words.now k (spare + request.request.size) (request_of request.request) }
+// Whether the chunk holds the request and is smaller than the best so far, which has so many bytes to spare.
+fn is_better(chunk: Held, spare: u64, request: WellFormed) -> bool
+    requires { spare + request.request.size < 2 ^ 64 }
+    ensures { result ≡ better_at chunk.entry.table.words.now chunk.entry.slot (spare + request.request.size) (request_of request.request) }
 {
     // one test for most chunks: too small a one wraps round to more than any has to spare
-    let over = layout::word(table.words, k, Field::Size).wrapping_sub(request.request.size);
+    let over = chunk.word(Field::Size).wrapping_sub(request.request.size);
     if spare <= over {
         return false;
     }
-    if !layout::is_free(table.words, k) {
+    if !chunk.is_free() {
         return false;
     }
-    fit::fits(table, k, request)
+    fit::fits(chunk, request)
 }
 
 // The slot of the chunk that is chosen, none where no free chunk holds the request.
@@ -36,11 +36,11 @@ pub fn best(table: SoundTable, request: WellFormed) -> Option<u64>
     let mut next = layout::first_slot(table.words);
     // by rising address, so that of equal chunks the first stays
     while next != 0 {
-        let k = next;
-        next = layout::word(table.words, k, Field::Next);
-        if is_better(table, k, spare, request) {
-            best = Some(k);
-            spare = layout::word(table.words, k, Field::Size) - request.request.size;
+        let chunk = Held { table, slot: next };
+        next = chunk.word(Field::Next);
+        if is_better(chunk, spare, request) {
+            best = Some(chunk.slot);
+            spare = chunk.word(Field::Size) - request.request.size;
         }
     }
     best

@@ -4,5 +4,6 @@
 pub mod best;
 pub mod empty;
 pub mod fit;
+mod held;
 pub mod live;
 mod scan;

@@ -1,27 +1,20 @@
 -- `search::fit::clears_after` meets its contract. Assumes nothing.
-use Rattle.std.proofs.Common.{not, ap, arith}
+use Rattle.std.proofs.Common.{not, ap, refl, ◌∙◌, arith}
+use Rattle.table.specs.Layout.{first_byte_at, kind_at}
+use Rattle.words.specs.declared.sound.SoundTable.{SoundTable}
 use Rattle.sub_allocator.specs.Requests.{request_of, fault-free}
-use Rattle.search.specs.Fit.{held_next}
-use Rattle.search.specs.Held.{held_slot}
 use Rattle.search.proofs.PageWays.{none_after, kinds-after, page-after}
 use Rattle.search.proofs.fit.clears_after.Goals as goal
 
-pub word-after-requires : goal.word-after-requires
-word-after-requires c = held_slot c.requires.0
-
-pub returns-then-after-eq0 : goal.returns-then-after-eq0
-returns-then-after-eq0 c = none_after _ _ _ c.word-after.ensures (request_of c.args.request.request) _ c.if-after-eq0.true
-
-pub word-kind-requires : goal.word-kind-requires
-word-kind-requires c = held_slot (held_next _ _ c.requires.0 _ c.word-after.ensures c.if-after-eq0.false)
+pub returns-in_default : goal.returns-in_default
+returns-in_default c = none_after _ _ _ refl (request_of c.args.request.request) _ c.in_default.ensures
 
 pub returns-then-not-has_granularity_conflict : goal.returns-then-not-has_granularity_conflict
 returns-then-not-has_granularity_conflict c =
-    kinds-after _ _ _ c.word-after.ensures (request_of c.args.request.request) _ c.if-after-eq0.false _ c.word-kind.ensures _
+    let a = c.in-Some.after in
+    kinds-after _ _ _ c.in-Some.ensures.1 (request_of c.args.request.request) _ (λ z. omega (arith, a.held.0.0)) _
+    (c.word-kind.ensures ∙ ap (λ (t : SoundTable). kind_at t.words.now a.slot) c.in-Some.ensures.0) _
     c.has_granularity_conflict.ensures (ap not c.if-not-has_granularity_conflict.true)
-
-pub word-first-requires : goal.word-first-requires
-word-first-requires c = held_slot (held_next _ _ c.requires.0 _ c.word-after.ensures c.if-after-eq0.false)
 
 pub is_on_same_page-requires-clause-page_size_value : goal.is_on_same_page-requires-clause-page_size_value
 is_on_same_page-requires-clause-page_size_value c = (fault-free _ c.args.request.well_formed).2
@@ -29,10 +22,13 @@ is_on_same_page-requires-clause-page_size_value c = (fault-free _ c.args.request
 pub is_on_same_page-requires-clause-size_a_nonzero : goal.is_on_same_page-requires-clause-size_a_nonzero
 is_on_same_page-requires-clause-size_a_nonzero c =
     let r = fault-free _ c.args.request.well_formed in
-    (omega (arith, r.0), c.requires.1)
+    (omega (arith, r.0), c.requires)
 
 pub returns : goal.returns
 returns c =
-    page-after _ _ _ c.word-after.ensures (request_of c.args.request.request) _ c.if-after-eq0.false _ c.word-kind.ensures _
-    c.has_granularity_conflict.ensures (ap not c.if-not-has_granularity_conflict.false) _ c.word-first.ensures _
+    let a = c.in-Some.after in
+    page-after _ _ _ c.in-Some.ensures.1 (request_of c.args.request.request) _ (λ z. omega (arith, a.held.0.0)) _
+    (c.word-kind.ensures ∙ ap (λ (t : SoundTable). kind_at t.words.now a.slot) c.in-Some.ensures.0) _
+    c.has_granularity_conflict.ensures (ap not c.if-not-has_granularity_conflict.false) _
+    (c.word-first.ensures ∙ ap (λ (t : SoundTable). first_byte_at t.words.now a.slot) c.in-Some.ensures.0) _
     c.is_on_same_page.ensures
