@@ -343,6 +343,6 @@ module _ (d : DedicatedBlock) where
     empty-answer = asks-accepted d _ s
 
     -- The report has one entry, occupied or not: first byte 0, the block's size, the label.
-    pub report-answer : report_of d ≡ accepted record { first = 0; size = d.size; label = d.label }
+    pub report-answer : report_of d ≡ accepted record { first_byte = 0; size = d.size; label = d.label }
     unfolding report_of
     report-answer = asks-accepted d _ s

@@ -1,15 +1,12 @@
 -- The dedicated block: what each call answers, and the record after it. Assumes nothing.
-use Rattle.std.specs.Prelude.{ℕ, Bool, not, cond, ◌&&◌, ◌||◌, eqb}
+use Rattle.std.specs.Prelude.{ℕ, Bool, not, cond, ◌&&◌, ◌||◌, eqb, Result, Ok, Err}
 use Rattle.laws.specs.Reply.{Reply, accepted, refused}
 use Rattle.model.specs.Placing.{Request, fault}
-use Rattle.sub_allocator.specs.Answers.{Given, reply_placement, reply_changed}
+use Rattle.refusals.specs.Refusals.{number_of}
+use Rattle.refusals.specs.declared.Refusal.{Refusal}
+use Rattle.sub_allocator.specs.Answers.{Given}
 use Rattle.dedicated.specs.declared.record.DedicatedBlock.{DedicatedBlock}
-use Rattle.dedicated.specs.declared.record.New.{New}
-use Rattle.dedicated.specs.declared.record.New.TheVariants as new
-use Rattle.dedicated.specs.declared.record.Report.{Report}
-use Rattle.dedicated.specs.declared.record.Report.TheVariants as report
-use Rattle.dedicated.specs.declared.record.Placing.{Placing}
-use Rattle.dedicated.specs.declared.record.Changing.{Changing}
+use Rattle.dedicated.specs.declared.record.AllocationReport.{AllocationReport}
 
 -- ---- the record
 
@@ -20,28 +17,19 @@ is_sound d = not (eqb d.size 0) && (eqb d.allocated 0 || eqb d.allocated d.size)
 abbrev pub block : ℕ → ℕ → ℕ → DedicatedBlock
 block size allocated label = record { size = size; allocated = allocated; label = label }
 
--- ---- the code's answers, as the paper numbers them
+-- ---- what a call by value hands back: the answer, and the record after it, on a refusal the one that came in
 
 -- the one entry of the report
-pub record Entry : Type 0 where
-  pub first : ℕ
-  pub size : ℕ
-  pub label : ℕ
+abbrev pub Entry : Type 0
+Entry = AllocationReport
 
-abbrev pub reply_new : New → Reply DedicatedBlock
-reply_new (new.Block d) = accepted d
-reply_new (new.Refused n) = refused n
+abbrev pub placed : DedicatedBlock → Result (Given × DedicatedBlock) Refusal → Reply Given × DedicatedBlock
+placed d (Ok p) = (accepted p.0, p.1)
+placed d (Err r) = (refused (number_of r), d)
 
-abbrev pub reply_report : Report → Reply Entry
-reply_report (report.Entry first size label) = accepted record { first = first; size = size; label = label }
-reply_report (report.Refused n) = refused n
-
--- what a call by value hands back: the answer, and the record after it
-abbrev pub placed : Placing → Reply Given × DedicatedBlock
-placed p = (reply_placement p.answer, p.block)
-
-abbrev pub changed : Changing → Reply (Unit {0}) × DedicatedBlock
-changed c = (reply_changed c.answer, c.block)
+abbrev pub changed : DedicatedBlock → Result DedicatedBlock Refusal → Reply (Unit {0}) × DedicatedBlock
+changed d (Ok after) = (accepted tt, after)
+changed d (Err r) = (refused (number_of r), d)
 
 -- ---- the calls
 
@@ -84,6 +72,10 @@ rename_in d id label = writes (id_fault d id) d tt (block d.size d.allocated lab
 abbrev pub asks : {A : Type 0} → DedicatedBlock → A → Reply A
 asks d told = cond (is_sound d) (accepted told) (refused 2)
 
+-- the record itself
+unfoldable pub checked_block : DedicatedBlock → Reply DedicatedBlock
+checked_block d = asks d d
+
 unfoldable pub allocated_in : DedicatedBlock → Reply ℕ
 allocated_in d = asks d d.allocated
 
@@ -92,4 +84,4 @@ is_empty_in d = asks d (eqb d.allocated 0)
 
 -- always one entry: first byte 0, the block's size, the label
 unfoldable pub report_of : DedicatedBlock → Reply Entry
-report_of d = asks d (record { first = 0; size = d.size; label = d.label })
+report_of d = asks d (record { first_byte = 0; size = d.size; label = d.label })

@@ -1,15 +1,13 @@
 -- Worked examples of the dedicated block, by computing. Assumes nothing.
-use Rattle.std.specs.Prelude.{ℕ, ◌-◌, ◌^◌, true, false, ◌≡◌, refl}
+use Rattle.std.specs.Prelude.{ℕ, ◌-◌, ◌^◌, true, false, ◌≡◌, refl, Ok, Err}
 use Rattle.std.specs.Int.Count.{ones}
 use Rattle.laws.specs.Reply.{accepted, refused}
 use Rattle.pages.specs.Pages.{is_power_of_two}
 use Rattle.model.specs.Placing.{Request, fault}
-use Rattle.dedicated.specs.Dedicated.{is_sound, block, new_block, request_fault, id_fault, allocate_in, free_in, rename_in, allocated_in, is_empty_in, report_of, reply_new, reply_report, placed, changed}
+use Rattle.dedicated.specs.Dedicated.{is_sound, block, new_block, request_fault, id_fault, allocate_in, free_in, rename_in, allocated_in, is_empty_in, report_of, Entry, placed, changed}
 use Rattle.dedicated.specs.declared.record.DedicatedBlock.{DedicatedBlock}
-use Rattle.dedicated.specs.declared.record.New.TheVariants as new
-use Rattle.dedicated.specs.declared.record.Report.TheVariants as report
-use Rattle.sub_allocator.specs.declared.answers.Placement.TheVariants as placement
-use Rattle.sub_allocator.specs.declared.answers.Changed.TheVariants as was
+use Rattle.refusals.specs.Refusals.{reply}
+use Rattle.refusals.specs.declared.Refusal.TheVariants as refusal
 
 -- a block of 4096 bytes that nothing was ever placed in; what the examples compute with is opened here, once
 empty : DedicatedBlock
@@ -141,11 +139,11 @@ asked-occupied : is_empty_in (block 4096 4096 7) ≡ accepted false
 unfolding empty
 asked-occupied = refl
 
-reported : report_of (block 4096 4096 7) ≡ accepted record { first = 0; size = 4096; label = 7 }
+reported : report_of (block 4096 4096 7) ≡ accepted record { first_byte = 0; size = 4096; label = 7 }
 unfolding empty
 reported = refl
 
-reported_empty : report_of (block 4096 0 7) ≡ accepted record { first = 0; size = 4096; label = 7 }
+reported_empty : report_of (block 4096 0 7) ≡ accepted record { first_byte = 0; size = 4096; label = 7 }
 unfolding empty
 reported_empty = refl
 
@@ -163,14 +161,14 @@ unsound_reported = refl
 
 -- ---- what the code's answers stand for
 
-new_told : reply_new (new.Block (block 1 2 3)) ≡ accepted (block 1 2 3)
+new_told : reply (Ok (block 1 2 3)) ≡ accepted (block 1 2 3)
 new_told = refl
 
-report_told : reply_report (report.Entry 1 2 3) ≡ accepted record { first = 1; size = 2; label = 3 }
+report_told : reply {A = Entry} (Ok record { first_byte = 1; size = 2; label = 3 }) ≡ accepted record { first_byte = 1; size = 2; label = 3 }
 report_told = refl
 
-placed-told : placed (record { answer = placement.Placed 4 5; block = block 1 2 3 }) ≡ (accepted record { offset = 4; id = 5 }, block 1 2 3)
+placed-told : placed (block 6 7 8) (Ok (record { offset = 4; id = 5 }, block 1 2 3)) ≡ (accepted record { offset = 4; id = 5 }, block 1 2 3)
 placed-told = refl
 
-changed-told : changed (record { answer = was.Refused 18; block = block 1 2 3 }) ≡ (refused 18, block 1 2 3)
+changed-told : changed (block 1 2 3) (Err refusal.NotId1) ≡ (refused 18, block 1 2 3)
 changed-told = refl

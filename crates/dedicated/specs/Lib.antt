@@ -2,6 +2,9 @@
 
 -- the definitions
 pub mod Dedicated
+-- the record as three words
+pub mod RecordWords
+pub mod SameWords
 -- when a record is sound
 pub mod Exactly
 -- that each call has one outcome

@@ -4,3 +4,4 @@
 pub mod creation;
 pub mod questions;
 pub mod record;
+mod words;

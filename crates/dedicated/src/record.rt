@@ -1,46 +1,22 @@
-// The record of a dedicated block, and what its calls answer.
+// The record of a dedicated block, and the one entry of its report.
 ghost use Rattle.std.specs.Prelude.{◌≡◌};
-ghost use Rattle.laws.specs.Reply.{number};
-ghost use Rattle.dedicated.specs.Dedicated.{is_sound, reply_new, reply_report};
+ghost use Rattle.refusals.specs.Refusals.{reply};
+ghost use Rattle.dedicated.specs.Dedicated.{is_sound, checked_block};
 
-use sub_allocator::answers::{Changed, Placement};
+use refusals::Refusal;
 
-#[derive(Clone, Copy)]
+#[derive(Clone, Copy, Debug, PartialEq, Eq)]
 pub struct DedicatedBlock {
     pub size: u64,
     pub allocated: u64,
     pub label: u64,
 }
 
-// Of creation: the new record.
-#[derive(Drop)]
-pub enum New {
-    Block(DedicatedBlock),
-    Refused(u64),
-}
-
-// Of the report: the one entry that it always has.
-#[derive(Drop)]
-pub enum Report {
-    Entry {
-        first_byte: u64,
-        size: u64,
-        label: u64,
-    },
-    Refused(u64),
-}
-
-// What a call by value hands back: its answer, and the record after it.
-#[derive(Drop)]
-pub struct Placing {
-    pub answer: Placement,
-    pub block: DedicatedBlock,
-}
-
-#[derive(Drop)]
-pub struct Changing {
-    pub answer: Changed,
-    pub block: DedicatedBlock,
+#[derive(Clone, Copy, Debug, PartialEq, Eq)]
+pub struct AllocationReport {
+    pub first_byte: u64,
+    pub size: u64,
+    pub label: u64,
 }
 
 impl DedicatedBlock {
@@ -49,40 +25,17 @@ impl DedicatedBlock {
     pub fn is_sound(self) -> bool
         ensures { result ≡ is_sound self }
     {
-        if self.size == 0 {
-            return false;
-        }
-        if self.allocated == 0 {
-            return true;
-        }
-        self.allocated == self.size
+        self.size != 0 && (self.allocated == 0 || self.allocated == self.size)
     }
-}
 
-impl New {
-    // The number given back: 0 where the call was accepted.
-    pub fn number(self) -> u64
-        ensures { result ≡ number (reply_new self) }
+    // The record itself, if it is sound.
+    #[tactic(auto, unfolding(crate::specs::Dedicated::checked_block))]
+    pub fn checked(self) -> Result<DedicatedBlock, Refusal>
+        ensures { reply result ≡ checked_block self }
     {
-        match self {
-            New::Block(_) => 0,
-            New::Refused(n) => n,
+        if !self.is_sound() {
+            return Err(Refusal::Unsound);
         }
-    }
-}
-
-impl Report {
-    // The number given back: 0 where the call was accepted.
-    pub fn number(self) -> u64
-        ensures { result ≡ number (reply_report self) }
-    {
-        match self {
-            Report::Entry {
-                first_byte: _,
-                size: _,
-                label: _,
-            } => 0,
-            Report::Refused(n) => n,
-        }
+        Ok(self)
     }
 }

@@ -1,111 +1,82 @@
-// The calls that change a dedicated block, by value: the record goes in, and comes back beside the answer.
+// The calls that change a dedicated block, by value: the record goes in, and comes back where the call is accepted.
 #![tactic(auto)]
 
 ghost use Rattle.std.specs.Prelude.{◌≡◌};
+ghost use Rattle.refusals.specs.Refusals.{fault_of};
 ghost use Rattle.sub_allocator.specs.Requests.{request_of};
 ghost use Rattle.dedicated.specs.Dedicated.{request_fault, id_fault, allocate_in, free_in, rename_in, placed, changed};
 
-use dedicated::record::{Changing, DedicatedBlock, Placing};
-use sub_allocator::answers::{Changed, Placement};
+use dedicated::record::DedicatedBlock;
+use refusals::Refusal;
+use sub_allocator::answers::Placement;
 use sub_allocator::request::Request;
 
-// What the request is refused for, 0 for nothing.
-#[tactic(auto, unfolding(dedicated::specs::Dedicated::request_fault))]
-fn request_fault(block: DedicatedBlock, request: Request) -> u64
-    ensures { result ≡ request_fault block (request_of request) }
+// What the request is refused for, if anything.
+#[tactic(auto, unfolding(dedicated::specs::Dedicated::request_fault, dedicated::specs::Dedicated::checked_block))]
+fn request_fault(block: DedicatedBlock, request: Request) -> Result<(), Refusal>
+    ensures { fault_of result ≡ request_fault block (request_of request) }
 {
-    if !block.is_sound() {
-        return 2;
-    }
-    let fault = request.fault();
-    if fault != 0 {
-        return fault;
-    }
-    let size = request.size;
+    block.checked()?;
+    request.checked()?;
     if block.allocated != 0 {
-        return 11;
+        return Err(Refusal::Occupied);
     }
-    if size != block.size {
-        return 12;
+    if request.size != block.size {
+        return Err(Refusal::OtherSize);
     }
-    0
+    Ok(())
 }
 
 #[tactic(auto, unfolding(dedicated::specs::Dedicated::allocate_in))]
-pub fn allocate(block: DedicatedBlock, request: Request) -> Placing
-    ensures { placed result ≡ allocate_in block (request_of request) }
+pub fn allocate(
+    block: DedicatedBlock,
+    request: Request,
+) -> Result<(Placement, DedicatedBlock), Refusal>
+    ensures { placed block result ≡ allocate_in block (request_of request) }
 {
-    let fault = request_fault(block, request);
-    if fault != 0 {
-        return Placing {
-            answer: Placement::Refused(fault),
-            block,
-        };
-    }
-    Placing {
-        answer: Placement::Placed { offset: 0, id: 1 },
-        block: DedicatedBlock {
-            size: block.size,
-            allocated: block.size,
-            label: request.label,
-        },
-    }
+    request_fault(block, request)?;
+    let placement = Placement { offset: 0, id: 1 };
+    let after = DedicatedBlock {
+        allocated: block.size,
+        label: request.label,
+        ..block
+    };
+    Ok((placement, after))
 }
 
-// What giving back and renaming by this id are refused for, 0 for nothing.
-#[tactic(auto, unfolding(dedicated::specs::Dedicated::id_fault))]
-fn id_fault(block: DedicatedBlock, id: u64) -> u64
-    ensures { result ≡ id_fault block id }
+// What giving back and renaming by this id are refused for, if anything.
+#[tactic(auto, unfolding(dedicated::specs::Dedicated::id_fault, dedicated::specs::Dedicated::checked_block))]
+fn id_fault(block: DedicatedBlock, id: u64) -> Result<(), Refusal>
+    ensures { fault_of result ≡ id_fault block id }
 {
-    if !block.is_sound() {
-        return 2;
-    }
+    block.checked()?;
     if id != 1 {
-        return 18;
+        return Err(Refusal::NotId1);
     }
-    0
+    Ok(())
 }
 
 // Accepted when already empty too, and the label stays.
 #[tactic(auto, unfolding(dedicated::specs::Dedicated::free_in))]
-pub fn free(block: DedicatedBlock, id: u64) -> Changing
-    ensures { changed result ≡ free_in block id }
+pub fn free(block: DedicatedBlock, id: u64) -> Result<DedicatedBlock, Refusal>
+    ensures { changed block result ≡ free_in block id }
 {
-    let fault = id_fault(block, id);
-    if fault != 0 {
-        return Changing {
-            answer: Changed::Refused(fault),
-            block,
-        };
-    }
-    Changing {
-        answer: Changed::Done,
-        block: DedicatedBlock {
-            size: block.size,
-            allocated: 0,
-            label: block.label,
-        },
-    }
+    id_fault(block, id)?;
+    Ok(DedicatedBlock {
+        allocated: 0,
+        ..block
+    })
 }
 
 // Accepted empty or not.
 #[tactic(auto, unfolding(dedicated::specs::Dedicated::rename_in))]
-pub fn rename_allocation(block: DedicatedBlock, id: u64, label: u64) -> Changing
-    ensures { changed result ≡ rename_in block id label }
+pub fn rename_allocation(
+    block: DedicatedBlock,
+    id: u64,
+    label: u64,
+) -> Result<DedicatedBlock, Refusal>
+    ensures { changed block result ≡ rename_in block id label }
 {
-    let fault = id_fault(block, id);
-    if fault != 0 {
-        return Changing {
-            answer: Changed::Refused(fault),
-            block,
-        };
-    }
-    Changing {
-        answer: Changed::Done,
-        block: DedicatedBlock {
-            size: block.size,
-            allocated: block.allocated,
-            label,
-        },
-    }
+    id_fault(block, id)?;
+    Ok(DedicatedBlock { label, ..block })
 }

@@ -4,7 +4,7 @@ use Rattle.laws.specs.Reply.{Reply}
 use Rattle.sub_allocator.specs.Answers.{Given}
 use Rattle.dedicated.specs.declared.record.DedicatedBlock.{DedicatedBlock}
 use Rattle.outs.specs.Outs.{words_out, placed_out}
-use Rattle.dedicated_words.specs.RecordWords.{words_of}
+use Rattle.dedicated.specs.RecordWords.{words_of}
 
 -- the number given back, and the record's words after the call
 abbrev pub record_out : {A : Type 0} → Reply A × DedicatedBlock → ℕ × List ℕ

@@ -6,7 +6,7 @@ use Rattle.pages.specs.Pages.{is_power_of_two}
 use Rattle.model.specs.Placing.{fault}
 use Rattle.dedicated.specs.Dedicated.{is_sound, id_fault, request_fault, allocate_in, free_in, rename_in}
 use Rattle.outs.specs.Outs.{request}
-use Rattle.dedicated_words.specs.RecordWords.{record_of}
+use Rattle.dedicated.specs.RecordWords.{record_of}
 use Rattle.dedicated_changes_calls.specs.DedicatedChanges.{record_out, placed_record_out}
 
 written : record_out {A = ℕ} (accepted 5, record_of (1 ∷ 2 ∷ 3 ∷ [])) ≡ (0, 1 ∷ 2 ∷ 3 ∷ [])

@@ -4,8 +4,8 @@ use Rattle.laws.specs.Reply.{refused}
 use Rattle.model.specs.Placing.{Request}
 use Rattle.dedicated.specs.Dedicated.{allocate_in, free_in, rename_in}
 use Rattle.dedicated.proofs.Exactly.{allocate-refused, free-refused, rename-refused}
-use Rattle.dedicated_words.specs.RecordWords.{record_of}
-use Rattle.dedicated_words.specs.SameWords.{same-words}
+use Rattle.dedicated.specs.RecordWords.{record_of}
+use Rattle.dedicated.specs.SameWords.{same-words}
 use Rattle.dedicated_changes_calls.specs.DedicatedChanges.{record_out, placed_record_out}
 
 module _ (ws : List ℕ) (three : length ws ≡ 3) {n : ℕ} where

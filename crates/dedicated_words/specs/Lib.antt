@@ -1,3 +1,3 @@
--- What the contracts of the record's words cite.
-pub mod RecordWords
-pub mod SameWords
+-- What stands for a dedicated block's record at the boundary.
+pub mod RecordOut
+pub mod RecordOutExamples

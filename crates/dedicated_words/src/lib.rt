@@ -1,23 +1,20 @@
-// A dedicated block's record as three words, read and written.
+// The record of a dedicated block at the boundary: what a call leaves of it is written out.
 #![tactic(auto)]
 
 ghost use Rattle.std.specs.Prelude.{◌≡◌};
-ghost use Rattle.dedicated_words.specs.RecordWords.{record_of, words_of};
+ghost use Rattle.refusals.specs.Refusals.{reply};
+ghost use Rattle.dedicated_words.specs.RecordOut.{new_out};
 
 use dedicated::record::DedicatedBlock;
+use refusals::Refusal;
 
-pub fn record_of(words: [u64; 3]) -> DedicatedBlock
-    ensures { result ≡ record_of words }
+// A refusal keeps the words that are there.
+pub fn give_record(answer: Result<DedicatedBlock, Refusal>, words: &mut [u64; 3]) -> u64
+    ensures { (result, words.new) ≡ new_out (reply answer) words.old }
 {
-    DedicatedBlock {
-        size: words[0],
-        allocated: words[1],
-        label: words[2],
-    }
-}
-
-pub fn words_of(block: DedicatedBlock) -> [u64; 3]
-    ensures { result ≡ words_of block }
-{
-    [block.size, block.allocated, block.label]
+    let Ok(block) = answer else {
+        return refusals::number(&answer);
+    };
+    *words = block.into();
+    0
 }

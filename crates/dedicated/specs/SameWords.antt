@@ -1,7 +1,7 @@
 -- The order of a record's three words, by computing, and that reading and writing them changes none. Assumes nothing.
 use Rattle.std.specs.Prelude.{ℕ, List, [], ◌∷◌, ◌≡◌, refl, length}
 use Rattle.std.proofs.Common.{arith}
-use Rattle.dedicated_words.specs.RecordWords.{record_of, words_of}
+use Rattle.dedicated.specs.RecordWords.{record_of, words_of}
 
 -- A record's words are its size, what is allocated and its label, in and out.
 record_order : record_of (1 ∷ 2 ∷ 3 ∷ []) ≡ record { size = 1; allocated = 2; label = 3 }
