@@ -5,8 +5,7 @@ use Rattle.std.proofs.Math.Nat.{div-div-eq-div-mul, pow-succ', sub_self}
 use Rattle.laws.specs.Decimal.{decimal-short}
 use Rattle.laws.specs.Powers.{fewer}
 use Rattle.laws.specs.Tests.{either}
-use Rattle.byte_text.specs.declared.Shown.{Shown}
-use Rattle.byte_text.specs.ByteText.{shown_as, divided, shown, hundredths, fmt_bytes}
+use Rattle.byte_text.specs.ByteText.{Shown, shown_as, divided, shown, hundredths, fmt_bytes}
 use Rattle.byte_text.specs.ByteTextLaws.{Scaled, Bounded, divided-stops, shown-divided, shown-small, hundredths-bound, suffix-short, text_length}
 
 -- Any other division goes on with the whole part, in the next unit.

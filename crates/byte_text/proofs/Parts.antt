@@ -5,13 +5,13 @@ use mathlib.Core.List.{List, [], ◌∷◌, ◌++◌, append_assoc}
 use native.Mathlib.Omega.{arith}
 use native.Mathlib.Numerals.{towards_suc}
 use lib.ListN.{length, set, length-append}
+use Rattle.std.specs.Prelude.{slice_index_or}
 use Rattle.laws.specs.Decimal.{decimal}
-use Rattle.laws.specs.Powers.{fewer}
 use borrow.Author.Tests.{lt-ltb, le-ltb, le-leb, lt-leb}
 use Rattle.laws.specs.Reply.{accepted, refused}
 use Rattle.laws.specs.Splice.{splice, splice-both, splice-sets, splice_front}
-use Rattle.byte_text.specs.declared.Shown.{Shown}
-use Rattle.byte_text.specs.ByteText.{places, suffix, divided, shown, hundredths, text_of, fmt_bytes, fmt_bytes_into}
+use Rattle.byte_text.specs.ByteText.{Shown, place, places, suffix, divided, shown, hundredths, text_of, fmt_bytes, fmt_bytes_into}
+use Rattle.byte_text.specs.declared.Unit.TheVariants as units
 use Rattle.byte_text.specs.ByteTextLaws.{text_length}
 use Rattle.byte_text.proofs.Dividing.{divided-goes_on}
 
@@ -20,20 +20,6 @@ use Rattle.byte_text.proofs.Dividing.{divided-goes_on}
 pub four : (xs : List ℕ) (at a b c d : ℕ) → at + 4 ≤ length xs →
     set (set (set (set xs at a) (at + 1) b) (at + 2) c) (at + 3) d ≡ splice xs at (a ∷ b ∷ c ∷ d ∷ [])
 four xs at a b c d h = simp towards_suc (sym (splice-sets xs at (a ∷ b ∷ c ∷ d ∷ []) h))
-
--- ---- the unit's name
--- "B" alone, or a letter and "B"
-pub one_letter : {unit : ℕ} → unit ≡ 0 → suffix unit ≡ 66 ∷ []
-unfolding suffix
-one_letter e = rw e
-
-pub two_letters : (unit : ℕ) → (unit ≡ 0 → ⊥) → 2 ≡ length (suffix unit)
-unfolding suffix
-two_letters zero e = absurd (e refl)
-two_letters (suc zero) e = refl
-two_letters (suc (suc zero)) e = refl
-two_letters (suc (suc (suc zero))) e = refl
-two_letters (suc (suc (suc (suc unit)))) e = refl
 
 -- ---- the text
 -- the digits, the places and the unit's name, one after another from the front
@@ -73,24 +59,18 @@ unfolding fmt_bytes_into
 written x n buf out h e l o =
     rw (lt-leb (2 ^ 50) x h, le-ltb (length buf) (length (fmt_bytes x)) (omega arith), e, o, splice_front buf (fmt_bytes x))
 
--- ---- the loop of `scale`
--- what is left to do at a unit comes to what was to do
-pub record Left (amount unit left : ℕ) : Type 0 where
-  pub unit_is : unit ≤ 4
-  pub size : left < 1024 ^ suc (suc (4 - unit))
-  pub same : divided (4 - unit) unit left ≡ divided 3 1 amount
+-- ---- the loop of `Shown::of`
+-- One division more, at the unit with this index.
+pub turn : (index amount left : ℕ) → index < 3 → 1024 ≤ left / 1024 → divided (3 - index) (index + 1) left ≡ divided 3 1 amount →
+    divided (3 - (index + 1)) (index + 1 + 1) (left / 1024) ≡ divided 3 1 amount
+turn zero amount left l h e = sym (divided-goes_on 2 1 left h) ∙ e
+turn (suc zero) amount left l h e = sym (divided-goes_on 1 2 left h) ∙ e
+turn (suc (suc zero)) amount left l h e = sym (divided-goes_on 0 3 left h) ∙ e
+turn (suc (suc (suc index))) amount left l h e = absurd (omega arith)
 
--- one division more
-pub turn : (amount unit left : ℕ) → Left amount unit left → 1024 ≤ left / 1024 → Left amount (unit + 1) (left / 1024)
-turn amount unit left i h = go (4 - unit) refl i.size i.same
-  where
-    go : (fuel : ℕ) → 4 - unit ≡ fuel → left < 1024 ^ suc (suc fuel) → divided fuel unit left ≡ divided 3 1 amount →
-        Left amount (unit + 1) (left / 1024)
-    go zero e s d = absurd (omega arith)
-    go (suc fuel) e s d =
-        let f : 4 - (unit + 1) ≡ fuel = omega arith in
-        record {
-          unit_is = omega arith;
-          size = rw f (fewer 1024 (suc (suc fuel)) left (omega arith) s);
-          same = rw f (sym (divided-goes_on fuel unit left h) ∙ d);
-        }
+-- The unit with this index, from KB on.
+pub unit_at : (index : ℕ) → index < 3 → place (slice_index_or (units.KB ∷ units.MB ∷ units.GB ∷ []) index units.B) ≡ index + 1
+unit_at zero l = refl
+unit_at (suc zero) l = refl
+unit_at (suc (suc zero)) l = refl
+unit_at (suc (suc (suc index))) l = absurd (omega arith)

@@ -9,8 +9,7 @@ use Rattle.laws.specs.Letters.{bytes}
 use Rattle.laws.specs.Nearest.{Nearest}
 use Rattle.laws.proofs.Nearest.{nearest-is}
 use Rattle.laws.specs.Tests.{either}
-use Rattle.byte_text.specs.declared.Shown.{Shown}
-use Rattle.byte_text.specs.ByteText.{suffix, shown_as, shown, hundredths, places, text_of, fmt_bytes}
+use Rattle.byte_text.specs.ByteText.{Shown, suffix, shown_as, shown, hundredths, places, text_of, fmt_bytes}
 use Rattle.byte_text.specs.ByteTextLaws.{Scaled, Bounded, shown-small, hundredths-bound}
 use Rattle.byte_text.proofs.Dividing.{shown-large, shown-bounded}
 use Rattle.byte_text.specs.Reader.{is_digit, same, named, names, after_point, whole, read_text, Says}

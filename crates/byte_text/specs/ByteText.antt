@@ -1,11 +1,34 @@
 -- An amount of bytes as text, as people read it. Assumes nothing.
-use Rattle.std.specs.Prelude.{ℕ, zero, suc, ◌+◌, ◌*◌, ◌/◌, ◌%◌, ◌^◌, cond, List, [], ◌∷◌, ◌++◌, ltb, leb, length, drop}
+use Rattle.std.specs.Prelude.{ℕ, zero, suc, ◌+◌, ◌*◌, ◌/◌, ◌%◌, ◌^◌, cond, List, [], ◌∷◌, ◌++◌, Option, Some, None, ltb, leb, length, drop}
 use Rattle.laws.specs.Reply.{Reply, accepted, refused}
 use Rattle.laws.specs.Nearest.{nearest}
 use Rattle.laws.specs.Decimal.{decimal, digit}
-use Rattle.byte_text.specs.declared.Shown.{Shown}
-use Rattle.byte_text.specs.declared.Written.{Written}
-use Rattle.byte_text.specs.declared.Written.TheVariants.{Bytes, Refused}
+use Rattle.byte_text.specs.declared.Shown as declared
+use Rattle.byte_text.specs.declared.Unit.{Unit}
+use Rattle.byte_text.specs.declared.Unit.TheVariants as units
+
+-- what is shown: amount / over, in a unit from 0 for "B" to 4 for "TB"
+pub record Shown : Type 0 where
+  pub amount : ℕ
+  pub over : ℕ
+  pub unit : ℕ
+
+-- the code's units by their places
+abbrev pub place : Unit → ℕ
+place units.B = 0
+place units.KB = 1
+place units.MB = 2
+place units.GB = 3
+place units.TB = 4
+
+-- what the code's own shows
+abbrev pub shown_of : declared.Shown → Shown
+shown_of s = record { amount = s.amount; over = s.over; unit = place s.unit }
+
+-- the name of a unit by the letter before "B", if there is one
+abbrev pub spelt : Option ℕ → List ℕ
+spelt None = 66 ∷ []
+spelt (Some letter) = letter ∷ 66 ∷ []
 
 -- the unit's name: "B", "KB", "MB", "GB", "TB"
 unfoldable pub suffix : ℕ → List ℕ
@@ -43,11 +66,6 @@ text_of h unit = decimal (h / 100) ++ (places h ++ suffix unit)
 -- the text of x bytes
 unfoldable pub fmt_bytes : ℕ → List ℕ
 fmt_bytes x = text_of (hundredths (shown x)) (shown x).unit
-
--- the code's answer, as the paper numbers it
-abbrev pub reply : Written → Reply ℕ
-reply (Bytes n) = accepted n
-reply (Refused n) = refused n
 
 -- the call: 15 from 2 ^ 50 on, then 16 for a short buffer; else the text at the front, its length, and the rest kept
 unfoldable pub fmt_bytes_into : ℕ → List ℕ → Reply ℕ × List ℕ

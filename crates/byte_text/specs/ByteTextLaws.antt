@@ -4,10 +4,7 @@ use Rattle.std.proofs.Common.{mul-le-mul_right, arith, length-append, lt-ltb, le
 use Rattle.laws.specs.Nearest.{Nearest}
 use Rattle.laws.proofs.Nearest.{nearest-is}
 use Rattle.laws.specs.Decimal.{decimal}
-use Rattle.byte_text.specs.declared.Shown.{Shown}
-use Rattle.byte_text.specs.declared.Written.{Written}
-use Rattle.byte_text.specs.declared.Written.TheVariants.{Bytes, Refused}
-use Rattle.byte_text.specs.ByteText.{suffix, shown_as, divided, shown, hundredths, text_of, reply}
+use Rattle.byte_text.specs.ByteText.{Shown, suffix, shown_as, divided, shown, hundredths, text_of}
 
 -- The last division is the one that comes below 1024.
 pub divided-stops : (fuel unit x : ℕ) → x / 1024 < 1024 → divided fuel unit x ≡ shown_as x 1024 unit
@@ -62,10 +59,3 @@ suffix-short (suc (suc (suc (suc unit)))) = omega arith
 pub text_length : (h unit : ℕ) → length (text_of h unit) ≡ length (decimal (h / 100)) + 4 + length (suffix unit)
 unfolding text_of
 text_length h unit = rw length-append (omega arith)
-
--- Two answers of the call that stand for the same reply are equal.
-pub one_answer_lem : (a b : Written) → reply a ≡ reply b → a ≡ b
-one_answer_lem (Bytes n) (Bytes m) e = cc
-one_answer_lem (Bytes n) (Refused m) e = cc
-one_answer_lem (Refused n) (Bytes m) e = cc
-one_answer_lem (Refused n) (Refused m) e = cc

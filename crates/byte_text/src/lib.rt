@@ -3,63 +3,37 @@
 
 ghost use Rattle.std.specs.Prelude.{◌≡◌, ◌∷◌, [], ◌+◌, ◌^◌, ◌<◌, ◌≤◌, length};
 ghost use Rattle.laws.specs.Nearest.{nearest};
-ghost use Rattle.laws.specs.Reply.{number};
 ghost use Rattle.laws.specs.Splice.{splice};
-ghost use Rattle.byte_text.specs.ByteText.{suffix, shown, hundredths, places, text_of, reply, fmt_bytes_into};
+ghost use Rattle.refusals.specs.Refusals.{reply};
+ghost use Rattle.byte_text.specs.ByteText.{place, spelt, suffix, shown_of, shown, hundredths, places, text_of, fmt_bytes_into};
 ghost use Rattle.byte_text.specs.ByteTextLaws.{Bounded};
 
 use decimal_text;
+use refusals::Refusal;
 
-// The number of bytes written, or the refusal's number.
-#[derive(Drop)]
-pub enum Written {
-    Bytes(usize),
-    Refused(u64),
+// The units, each 1024 of the one before.
+#[derive(Clone, Copy, Debug, PartialEq, Eq)]
+enum Unit {
+    B,
+    KB,
+    MB,
+    GB,
+    TB,
 }
 
-impl Written {
-    // The number given back: 0 where the text was written.
-    pub fn number(self) -> u64
-        ensures { result ≡ number (reply self) }
-    {
-        match self {
-            Written::Bytes(_) => 0,
-            Written::Refused(n) => n,
-        }
-    }
-}
-
-// What is shown: amount / over, in the unit's place among B, KB, MB, GB, TB.
+// What is shown: amount / over, in a unit.
 #[derive(Clone, Copy)]
-pub struct Shown {
-    pub amount: u64,
-    pub over: u64,
-    pub unit: u64,
+struct Shown {
+    amount: u64,
+    over: u64,
+    unit: Unit,
 }
 
-// The last division is left undone, so that its rest can be rounded.
-fn scale(amount: u64) -> Shown
-    requires { amount < 2 ^ 50 }
-    ensures { result ≡ shown amount }
-{
-    if amount < 1024 {
-        return Shown {
-            amount,
-            over: 1,
-            unit: 0,
-        };
-    }
-    let mut left = amount;
-    let mut unit: u64 = 1;
-    while 1024 <= left / 1024 {
-        left = left / 1024;
-        unit += 1;
-    }
-    Shown {
-        amount: left,
-        over: 1024,
-        unit,
-    }
+// What is shown, to two places.
+#[derive(Clone, Copy)]
+struct Text {
+    hundredths: u64,
+    unit: Unit,
 }
 
 // n / d rounded, a tie to the even number.
@@ -79,30 +53,6 @@ fn round(n: u64, d: u64) -> u64
     whole + whole % 2
 }
 
-// What is shown, to two places.
-#[tactic(auto, unfolding(crate::specs::ByteText::hundredths))]
-fn hundredths(s: Shown) -> u64
-    requires { Bounded s }
-    ensures { result ≡ hundredths s }
-{
-    round(100 * s.amount, s.over)
-}
-
-// How many letters the unit's name has.
-#[tactic(auto, using(crate::proofs::Parts::one_letter, crate::proofs::Parts::two_letters))]
-fn suffix_len(unit: u64) -> usize
-    ensures { result ≡ length (suffix unit) }
-{
-    if unit == 0 { 1 } else { 2 }
-}
-
-// How many bytes the text of h hundredths of a unit has: the point, two places and the blank are four.
-fn text_len(h: u64, unit: u64) -> usize
-    ensures { result ≡ length (text_of h unit) }
-{
-    decimal_text::decimal_len(h / 100) + 4 + suffix_len(unit)
-}
-
 // Stores the two places behind the point, between "." and " ".
 fn put_places(buf: &mut [u8], at: usize, h: u64) -> usize
     requires { at + 4 ≤ length buf.old }
@@ -115,61 +65,116 @@ fn put_places(buf: &mut [u8], at: usize, h: u64) -> usize
     at + 4
 }
 
-// The first letter of a unit's name that has two.
-#[tactic(auto, unfolding(crate::specs::ByteText::suffix))]
-fn letter(unit: u64) -> u8
-    requires { (0 < unit) × (unit ≤ 4) }
-    ensures { suffix unit ≡ result ∷ 66 ∷ [] }
-{
-    if unit == 1 {
-        return b'K';
+impl Unit {
+    // The letter of its name before "B", if it has one.
+    #[tactic(auto, unfolding(crate::specs::ByteText::suffix))]
+    fn letter(self) -> Option<u8>
+        ensures { suffix (place self) ≡ spelt result }
+    {
+        match self {
+            Unit::B => None,
+            Unit::KB => Some(b'K'),
+            Unit::MB => Some(b'M'),
+            Unit::GB => Some(b'G'),
+            Unit::TB => Some(b'T'),
+        }
     }
-    if unit == 2 {
-        return b'M';
+
+    // How many letters its name has.
+    fn name_len(self) -> usize
+        ensures { result ≡ length (suffix (place self)) }
+    {
+        if self.letter().is_some() { 2 } else { 1 }
     }
-    if unit == 3 {
-        return b'G';
+
+    // Stores its name.
+    fn put_name(self, buf: &mut [u8], at: usize)
+        requires { at + length (suffix (place self)) ≤ length buf.old }
+        ensures { buf.new ≡ splice buf.old at (suffix (place self)) }
+    {
+        let Some(letter) = self.letter() else {
+            decimal_text::put(buf, at, b'B');
+            return;
+        };
+        let next = decimal_text::put(buf, at, letter);
+        decimal_text::put(buf, next, b'B');
     }
-    b'T'
 }
 
-// Stores the unit's name.
-fn put_suffix(buf: &mut [u8], at: usize, unit: u64)
-    requires { (at + length (suffix unit) ≤ length buf.old) × (unit ≤ 4) }
-    ensures { buf.new ≡ splice buf.old at (suffix unit) }
-{
-    if unit == 0 {
-        decimal_text::put(buf, at, b'B');
-        return;
+impl Shown {
+    // The last division is left undone, so that its rest can be rounded.
+    fn of(amount: u64) -> Shown
+        ensures { shown_of result ≡ shown amount }
+    {
+        if amount < 1024 {
+            return Shown {
+                amount,
+                over: 1,
+                unit: Unit::B,
+            };
+        }
+        let mut left = amount;
+        for unit in [Unit::KB, Unit::MB, Unit::GB] {
+            if left / 1024 < 1024 {
+                return Shown {
+                    amount: left,
+                    over: 1024,
+                    unit,
+                };
+            }
+            left /= 1024;
+        }
+        Shown {
+            amount: left,
+            over: 1024,
+            unit: Unit::TB,
+        }
     }
-    let next = decimal_text::put(buf, at, letter(unit));
-    decimal_text::put(buf, next, b'B');
+
+    #[tactic(auto, unfolding(crate::specs::ByteText::hundredths))]
+    fn to_places(self) -> Text
+        requires { Bounded (shown_of self) }
+        ensures hundredths { result.hundredths ≡ hundredths (shown_of self) }
+        ensures unit { result.unit ≡ self.unit }
+    {
+        Text {
+            hundredths: round(100 * self.amount, self.over),
+            unit: self.unit,
+        }
+    }
 }
 
-// Stores the text of h hundredths of a unit at the front.
-fn put_text(buf: &mut [u8], h: u64, unit: u64)
-    requires { (length (text_of h unit) ≤ length buf.old) × (unit ≤ 4) }
-    ensures { buf.new ≡ splice buf.old 0 (text_of h unit) }
-{
-    let point = decimal_text::put_decimal(buf, 0, h / 100);
-    let name = put_places(buf, point, h);
-    put_suffix(buf, name, unit);
+impl Text {
+    // How many bytes it has: the point, two places and the blank are four.
+    fn len(self) -> usize
+        ensures { result ≡ length (text_of self.hundredths (place self.unit)) }
+    {
+        decimal_text::decimal_len(self.hundredths / 100) + 4 + self.unit.name_len()
+    }
+
+    // Stores it at the front.
+    fn put(self, buf: &mut [u8])
+        requires { length (text_of self.hundredths (place self.unit)) ≤ length buf.old }
+        ensures { buf.new ≡ splice buf.old 0 (text_of self.hundredths (place self.unit)) }
+    {
+        let point = decimal_text::put_decimal(buf, 0, self.hundredths / 100);
+        let name = put_places(buf, point, self.hundredths);
+        self.unit.put_name(buf, name);
+    }
 }
 
 // The text is measured before the first store, so a refusal leaves the buffer as it was.
-pub fn fmt_bytes(amount: u64, buf: &mut [u8]) -> Written
+pub fn fmt_bytes(amount: u64, buf: &mut [u8]) -> Result<usize, Refusal>
     ensures { (reply result, buf.new) ≡ fmt_bytes_into amount buf.old }
 {
     if 1 << 50 <= amount {
-        return Written::Refused(15);
+        return Err(Refusal::Amount);
     }
-    let s = scale(amount);
-    let h = hundredths(s);
-    let unit = s.unit;
-    let needed = text_len(h, unit);
+    let text = Shown::of(amount).to_places();
+    let needed = text.len();
     if buf.len() < needed {
-        return Written::Refused(16);
+        return Err(Refusal::ShortBuffer);
     }
-    put_text(buf, h, unit);
-    Written::Bytes(needed)
+    text.put(buf);
+    Ok(needed)
 }

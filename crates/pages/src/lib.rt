@@ -5,7 +5,7 @@ ghost use Rattle.std.specs.Prelude.{◌≡◌, true, ◌+◌, ◌-◌, ◌^◌, 
 ghost use Rattle.laws.specs.Rounding.{align_down, align_up};
 ghost use Rattle.pages.specs.Pages.{is_power_of_two, is_on_same_page, has_granularity_conflict};
 
-// The test that a public entry makes of an alignment or a granularity.
+// The test that a public entry makes of an alignment or a granularity, by `count_ones` as the paper has it.
 #[tactic(auto, unfolding(crate::specs::Pages::is_power_of_two))]
 pub fn is_power_of_two(x: u64) -> bool
     ensures { result ≡ is_power_of_two x }
@@ -40,6 +40,7 @@ pub fn is_on_same_page(offset_a: u64, size_a: u64, offset_b: u64, page_size: u64
 }
 
 // Whether two kinds of chunk (0 free, 1 linear, 2 non-linear) must keep to pages of their own.
+// The kinds are numbers, and no enum: the definition says what any two numbers get, and a recorded run may ask for any.
 #[tactic(auto, unfolding(crate::specs::Pages::has_granularity_conflict))]
 pub fn has_granularity_conflict(type0: u64, type1: u64) -> bool
     ensures { result ≡ has_granularity_conflict type0 type1 }

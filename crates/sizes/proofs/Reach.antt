@@ -1,10 +1,9 @@
 -- Which sizes the calls can produce, and that those are the sizes that the calls accept. Assumes nothing.
-use Rattle.std.specs.Prelude.{ℕ, ◌^◌, ◌<◌, Bool, true, false, ◌≡◌, refl}
+use Rattle.std.specs.Prelude.{ℕ, Bool, true, false, ◌≡◌, refl}
 use Rattle.std.proofs.Common.{subst}
-use Rattle.laws.specs.Reply.{Reply, accepted, refused}
 use Rattle.laws.specs.Tests.{both}
 use Rattle.size_ranges.specs.SizeRanges.{is_block_size, is_range}
-use Rattle.size_ranges.specs.RangeLaws.{Range, range-told, range-tested, fixed, widened, settled, topped, word}
+use Rattle.size_ranges.specs.RangeLaws.{range-told, range-tested, fixed, widened, settled, topped, word}
 use Rattle.sizes.specs.Sizes.{is_producible, new_sizes, default_sizes, with_max_device, with_max_host, if_producible, set_max_device, set_max_host, next_size, memblock_size}
 use Rattle.sizes.specs.Reach.{Reachable, Producible, Exactly}
 use Rattle.sizes.specs.Reach.Reachable.{new, default, device, host}
