@@ -1,5 +1,5 @@
 -- What each way through the parts of the check answers. Assumes nothing.
-use Rattle.std.proofs.Common.{◌≡◌, ℕ, zero, suc, ◌-◌, true, false, eqb, ◌≢◌, List, [], ◌∷◌, sym, refl, ap, ◌∙◌, sub-one, arith, eqb-true, eq-eqb, ne_eqb}
+use Rattle.std.proofs.Common.{◌≡◌, ℕ, zero, suc, ◌-◌, ◌<◌, ◌≤◌, true, false, eqb, ◌≢◌, List, [], ◌∷◌, sym, refl, ap, ◌∙◌, sub-one, arith, eqb-true, eq-eqb, ne_eqb}
 use Rattle.std.proofs.lemmas.Nat.{and_le_l, and_le_r}
 use Rattle.std.specs.Int.Bits.{bit_or, or_add_and}
 use Rattle.laws.specs.Every.{every, pass, fail, more, none, second, together}
@@ -53,27 +53,27 @@ module _ (ws : List ℕ) where
   found_all k zero e = refl
   found_all k (suc left) e = absurd (omega arith)
 
-  pub none_left : (k left : ℕ) → k ≡ 0 → left ≢ 0 → empty_below ws k left ≡ false
+  pub at_end : (k left : ℕ) → k < 1 → eqb left 0 ≡ empty_below ws k left
   unfolding empty_below
-  none_left k zero e n = absurd (n refl)
-  none_left zero (suc left) e n = refl
-  none_left (suc k) (suc left) e n = absurd (omega arith)
+  at_end k zero e = refl
+  at_end zero (suc left) e = ne_eqb (suc left) 0 (λ (z : suc left ≡ 0). omega arith)
+  at_end (suc k) (suc left) e = absurd (omega arith)
 
-  pub skip-used : (k left : ℕ) → k ≢ 0 → left ≢ 0 → id_at ws k ≢ 0 → empty_below ws k left ≡ empty_below ws (k - 1) left
+  pub skip-used : (k left : ℕ) → 1 ≤ k → left ≢ 0 → id_at ws k ≢ 0 → empty_below ws k left ≡ empty_below ws (k - 1) left
   unfolding empty_below
   skip-used k zero m n h = absurd (n refl)
-  skip-used zero (suc left) m n h = absurd (m refl)
+  skip-used zero (suc left) m n h = absurd (omega arith)
   skip-used (suc k) (suc left) m n h = rw (ne_eqb (id_at ws (suc k)) 0 h, sub-one)
 
-  pub not_empty : (k left : ℕ) → k ≢ 0 → left ≢ 0 → id_at ws k ≡ 0 → others_zero ws k ≡ false → empty_below ws k left ≡ false
+  pub not_empty : (k left : ℕ) → 1 ≤ k → left ≢ 0 → id_at ws k ≡ 0 → others_zero ws k ≡ false → empty_below ws k left ≡ false
   unfolding empty_below
   not_empty k zero m n h e = absurd (n refl)
-  not_empty zero (suc left) m n h e = absurd (m refl)
+  not_empty zero (suc left) m n h e = absurd (omega arith)
   not_empty (suc k) (suc left) m n h e = rw (eq-eqb (id_at ws (suc k)) 0 h) (fail _ 0 e)
 
-  pub one_found : (k left : ℕ) → k ≢ 0 → left ≢ 0 → id_at ws k ≡ 0 → others_zero ws k ≡ true → empty_below ws k left ≡ empty_below ws (k - 1) (left - 1)
+  pub one_found : (k left : ℕ) → 1 ≤ k → left ≢ 0 → id_at ws k ≡ 0 → others_zero ws k ≡ true → empty_below ws k left ≡ empty_below ws (k - 1) (left - 1)
   unfolding empty_below
   one_found k zero m n h e = absurd (n refl)
-  one_found zero (suc left) m n h e = absurd (m refl)
+  one_found zero (suc left) m n h e = absurd (omega arith)
   one_found (suc k) (suc left) m n h e =
       rw (eq-eqb (id_at ws (suc k)) 0 h, sub-one) (second _ _ e ∙ ap (empty_below ws k) (sym (sub-one (suc left))))

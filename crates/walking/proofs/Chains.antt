@@ -1,10 +1,43 @@
 -- The chains of the buckets: that they hold every slot entered, each under its id. Assumes nothing.
-use Rattle.std.proofs.Common.{◌≡◌, ℕ, zero, suc, ◌+◌, ◌-◌, ◌<◌, ◌≤◌, Bool, true, false, cond, not, eqb, ◌≢◌, List, [], ◌∷◌, length, get_or, drop, set, sym, refl, ap, ◌∙◌, ⊎_elim, sub-one, arith, length-set, get_or-set_other, get_or-set_same, eq-eqb, ne_eqb}
+use Rattle.std.proofs.Common.{◌≡◌, ℕ, zero, suc, ◌+◌, ◌-◌, ◌<◌, ◌≤◌, Bool, true, false, cond, not, eqb, ◌≢◌, List, [], ◌∷◌, length, get_or, drop, set, sym, refl, ap, ◌∙◌, ⊎_elim, sub-one, arith, length-set, get_or-set_other, get_or-set_same, eq-eqb, ne_eqb, ◌++◌, replicate}
 use Rattle.std.proofs.Math.Seq.{set_out}
+use Rattle.std.proofs.lemmas.List.{set-append_left, set-append_right, get_or_append_left, get_or-append_right, get_or-replicate, get_or_past, length-replicate, replicate-append-replicate}
 use Rattle.laws.specs.Members.{has, has-head, has_same, has_other, not_head, eq_or_not}
 use Rattle.laws.specs.Tests.{cond_cases, either}
 use Rattle.table.specs.Layout.{id_at}
 use Rattle.words.specs.Ids.{AllAtMost, AllZero, bucket_of, bucket_below, head_of, link_of, chain, Ends, AllEnd, ids_at, on_chain, is_new, entered}
+
+-- ---- the heads and the links as one list
+
+module _ (hs ls : List ℕ) (long : length hs ≡ 512) where
+  pub link_read : (k : ℕ) → 1 ≤ k → get_or (hs ++ ls) (link_of k) 0 ≡ get_or ls (k - 1) 0
+  link_read k l =
+      let e : 511 + k - 512 ≡ k - 1 = omega arith in
+      get_or-append_right hs ls 512 (link_of k) 0 long (omega arith) ∙ ap (λ (i : ℕ). get_or ls i 0) e
+
+  head_read : (h : ℕ) → h < 512 → get_or (hs ++ ls) h 0 ≡ get_or hs h 0
+  head_read h l = get_or_append_left hs ls 0 h (omega arith)
+
+  head_set : (h x : ℕ) → h < 512 → set (hs ++ ls) h x ≡ set hs h x ++ ls
+  head_set h x l = set-append_left hs ls h x (omega arith)
+
+  link_set : (k x : ℕ) → 1 ≤ k → set (hs ++ ls) (link_of k) x ≡ hs ++ set ls (k - 1) x
+  link_set k x l =
+      let e : 511 + k - 512 ≡ k - 1 = omega arith in
+      set-append_right hs ls 512 (link_of k) x long (omega arith) ∙ ap (λ (i : ℕ). hs ++ set ls i x) e
+
+all_zero : (n : ℕ) → AllZero (replicate n 0)
+all_zero n i =
+    either _ i n
+    (λ h. get_or-replicate {A = ℕ} n i 0 0 h)
+    (λ h. get_or_past {X = ℕ} (replicate n 0) i 0 (omega (arith, length-replicate {A = ℕ} n 0)))
+
+-- Arrays in which nothing was entered.
+pub zeros : (n m : ℕ) → AllZero (replicate n 0 ++ replicate m 0)
+zeros n m i = ap (λ (l : List ℕ). get_or l i 0) (replicate-append-replicate {A = ℕ} n m 0) ∙ all_zero (n + m) i
+
+pub zeros_long : (n m : ℕ) → length {A = ℕ} (replicate n 0 ++ replicate m 0) ≡ n + m
+zeros_long n m = ap (length {A = ℕ}) (replicate-append-replicate {A = ℕ} n m 0) ∙ length-replicate {A = ℕ} (n + m) 0
 
 -- ---- `on_chain`
 
@@ -41,29 +74,25 @@ ended t (suc n) zero e = refl
 ended t (suc n) (suc k) e = ap (λ (l : List ℕ). suc k ∷ l) (ended t n (get_or t (link_of (suc k)) 0) (ap (drop 1) e))
 
 -- The chain goes on by a link, one slot shorter.
-module _ (t : List ℕ) (k : ℕ) (some : k ≢ 0) (ends-k : Ends t k) where
-  after : ℕ
-  after = get_or t (link_of k) 0
+module _ (t : List ℕ) (k j : ℕ) (linked : get_or t (link_of k) 0 ≡ j) (some : k ≢ 0) (ends-k : Ends t k) where
+  step : (n : ℕ) → n ≢ 0 → chain n t k ≡ k ∷ chain (n - 1) t j
+  step n f = next t n k f some ∙ ap (λ (i : ℕ). k ∷ chain (n - 1) t i) linked
 
-  now : chain 512 t k ≡ k ∷ chain 511 t after
-  unfolding after
-  now = next t 512 k (λ (e : 512 ≡ 0). omega arith) some
+  short : chain 512 t j ≡ chain 511 t j
+  short = ap (drop 1) (sym (step 513 (λ (e : 513 ≡ 0). omega arith)) ∙ ends-k ∙ step 512 (λ (e : 512 ≡ 0). omega arith))
 
-  short : chain 512 t after ≡ chain 511 t after
-  unfolding after
-  short = ap (drop 1) (sym (next t 513 k (λ (e : 513 ≡ 0). omega arith) some) ∙ ends-k ∙ now)
+  pub ends_on : Ends t j
+  ends_on = ended t 511 j short
 
-  pub ends_on : Ends t (get_or t (link_of k) 0)
-  unfolding after
-  ends_on = ended t 511 after short
+  pub shorter : length (chain 512 t j) < length (chain 512 t k)
+  shorter = omega (arith, ap length (step 512 (λ (e : 512 ≡ 0). omega arith)), ap length short)
 
-  pub shorter : length (chain 512 t (get_or t (link_of k) 0)) < length (chain 512 t k)
-  unfolding after
-  shorter = omega (arith, ap length now, ap length short)
-
-  pub chain-after : (ws : List ℕ) (id : ℕ) → id_at ws k ≢ id → on_chain ws t 512 k id ≡ on_chain ws t 512 (get_or t (link_of k) 0) id
-  unfolding after on_chain
-  chain-after ws id n = chain-on ws t 512 k id (λ (e : 512 ≡ 0). omega arith) some n ∙ ap (λ (l : List ℕ). has id (ids_at ws l)) (sym short)
+  pub chain-after : (ws : List ℕ) (id : ℕ) → id_at ws k ≢ id → on_chain ws t 512 k id ≡ on_chain ws t 512 j id
+  unfolding on_chain
+  chain-after ws id n =
+      chain-on ws t 512 k id (λ (e : 512 ≡ 0). omega arith) some n
+      ∙ ap (λ (i : ℕ). has id (ids_at ws (chain 511 t i))) linked
+      ∙ ap (λ (l : List ℕ). has id (ids_at ws l)) (sym short)
 
 -- ---- `enter`
 
@@ -76,7 +105,7 @@ chain_head t h x (suc n) (suc k) l =
     ap (λ (j : ℕ). suc k ∷ chain n (set t h x) j) (get_or-set_other t h (link_of (suc k)) x 0 (λ (e : link_of (suc k) ≡ h). omega arith))
     ∙ ap (λ (ks : List ℕ). suc k ∷ ks) (chain_head t h x n (get_or t (link_of (suc k)) 0) l)
 
-pub ends_head : (t : List ℕ) (h x : ℕ) → h < 512 → AllEnd t → Ends (set t h x) (get_or t h 0)
+ends_head : (t : List ℕ) (h x : ℕ) → h < 512 → AllEnd t → Ends (set t h x) (get_or t h 0)
 ends_head t h x l a = chain_head t h x 513 (get_or t h 0) l ∙ a h l ∙ sym (chain_head t h x 512 (get_or t h 0) l)
 
 module _ (ws t : List ℕ) (k id h : ℕ) (e : id ≡ id_at ws k) (f : h ≡ bucket_of id) where
@@ -90,15 +119,15 @@ module _ (ws t : List ℕ) (k id h : ℕ) (e : id ≡ id_at ws k) (f : h ≡ buc
       ∙ ap (λ (i : ℕ). not (has i (ids_at ws (chain 512 t (get_or t h 0))))) e
       ∙ ap (λ (i : ℕ). not (has (id_at ws k) (ids_at ws (chain 512 t (get_or t i 0))))) heads
 
-  pub met : (b : Bool) → b ≡ on_chain ws (set t h k) 512 (get_or t h 0) id → b ≡ true → false ≡ is_new ws t k
+  met : (b : Bool) → b ≡ on_chain ws (set t h k) 512 (get_or t h 0) id → b ≡ true → false ≡ is_new ws t k
   met b g l = ap not (sym l ∙ g) ∙ by_chain
 
-  pub not-met : (b : Bool) → b ≡ on_chain ws (set t h k) 512 (get_or t h 0) id → b ≡ false → true ≡ is_new ws t k
+  not-met : (b : Bool) → b ≡ on_chain ws (set t h k) 512 (get_or t h 0) id → b ≡ false → true ≡ is_new ws t k
   not-met b g l = ap not (sym l ∙ g) ∙ by_chain
 
-  pub stored : set (set t h k) (511 + k) (get_or t h 0) ≡ entered ws t k
+  stored : set (set t h k) (link_of k) (get_or t h 0) ≡ entered ws t k
   unfolding entered
-  stored = ap (λ (i : ℕ). set (set t i k) (511 + k) (get_or t i 0)) heads
+  stored = ap (λ (i : ℕ). set (set t i k) (link_of k) (get_or t i 0)) heads
 
 -- ---- what the buckets hold
 
@@ -231,7 +260,7 @@ module _ (ws t vs : List ℕ) (k : ℕ) (low : 1 ≤ k) (high : k ≤ 512) (long
 
 -- ---- every head and link stays a slot
 
-pub within-set : (s : ℕ) (t : List ℕ) (i x : ℕ) → AllAtMost s t → x ≤ s → AllAtMost s (set t i x)
+within-set : (s : ℕ) (t : List ℕ) (i x : ℕ) → AllAtMost s t → x ≤ s → AllAtMost s (set t i x)
 within-set s t i x w l j = ⊎_elim same_place (λ n. rw (get_or-set_other t i j x 0 n) (w j)) (eq_or_not j i)
   where
     same_place : j ≡ i → get_or (set t i x) j 0 ≤ s
@@ -244,3 +273,39 @@ pub within-entered : (ws t : List ℕ) (s k : ℕ) → AllAtMost s t → k ≤ s
 unfolding entered
 within-entered ws t s k w l =
     within-set s (set t (head_of ws k) k) (link_of k) (get_or t (head_of ws k) 0) (within-set s t (head_of ws k) k w l) (w (head_of ws k))
+
+-- ---- a slot is entered in the arrays
+
+module _ (ws hs ls : List ℕ) (k id h : ℕ) (long : length hs ≡ 512) (e : id ≡ id_at ws k) (f : h ≡ bucket_of id) where
+  below : h < 512
+  below = rw f (bucket_below id)
+
+  first : get_or (hs ++ ls) h 0 ≡ get_or hs h 0
+  first = head_read hs ls long h below
+
+  headed : set (hs ++ ls) h k ≡ set hs h k ++ ls
+  headed = head_set hs ls long h k below
+
+  pub array-within : (s : ℕ) → AllAtMost s (hs ++ ls) → k ≤ s → AllAtMost s (set hs h k ++ ls)
+  array-within s w l i = rw (← headed) (within-set s (hs ++ ls) h k w l i)
+
+  pub array-start : (s : ℕ) → AllAtMost s (hs ++ ls) → get_or hs h 0 ≤ s
+  array-start s w = rw (← first) (w h)
+
+  pub array-ends : AllEnd (hs ++ ls) → Ends (set hs h k ++ ls) (get_or hs h 0)
+  array-ends a = rw (← headed, ← first) (ends_head (hs ++ ls) h k below a)
+
+  module _ (b : Bool) (g : b ≡ on_chain ws (set hs h k ++ ls) 512 (get_or hs h 0) id) where
+    now-met : b ≡ on_chain ws (set (hs ++ ls) h k) 512 (get_or (hs ++ ls) h 0) id
+    now-met = rw (headed, first) g
+
+    pub array-met : b ≡ true → false ≡ is_new ws (hs ++ ls) k
+    array-met = met ws (hs ++ ls) k id h e f b now-met
+
+    pub array-new : b ≡ false → true ≡ is_new ws (hs ++ ls) k
+    array-new = not-met ws (hs ++ ls) k id h e f b now-met
+
+  pub array-stored : 1 ≤ k → set hs h k ++ set ls (k - 1) (get_or hs h 0) ≡ entered ws (hs ++ ls) k
+  array-stored l =
+      sym (link_set (set hs h k) ls (length-set hs h k ∙ long) k (get_or hs h 0) l)
+      ∙ rw (← headed, ← first) (stored ws (hs ++ ls) k id h e f)

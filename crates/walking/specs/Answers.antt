@@ -1,15 +1,28 @@
 -- What the parts of the walk answer. Assumes nothing.
-use Rattle.std.specs.Prelude.{ℕ, cond, List, [], ◌∷◌, ◌==◌}
+use Rattle.std.specs.Prelude.{ℕ, cond, List, [], ◌∷◌, ◌++◌, ◌==◌, length, Option, Some, None}
 use Rattle.laws.specs.Every.{every}
-use Rattle.walking.specs.declared.Live.{Live}
-use Rattle.walking.specs.declared.Live.TheVariants.{Bytes, Broken}
+use Rattle.walking.specs.declared.ids.Buckets.{Buckets}
+use Rattle.walking.specs.declared.place.Place.{Place}
 use Rattle.table.specs.Layout.{block_size, allocated_word, size_at, kind_at}
-use Rattle.words.specs.Checks.{kind_ok}
+use Rattle.words.specs.Words.{chunks_of}
+use Rattle.words.specs.Checks.{kind_ok, walked}
+
+-- the buckets as one list
+abbrev pub heads_and_links : Buckets → List ℕ
+heads_and_links b = b.heads ++ b.links
+
+-- where a walk stands before its first chunk, in slot k
+abbrev pub at_start : ℕ → Place
+at_start k = record { prev = 0; k = k; first = 0; before = 1; sum = 0; n = 0 }
 
 -- the bytes that a chunk adds to those allocated, where its kind and label keep the rules
-unfoldable pub live_of : List ℕ → ℕ → ℕ → Live
-live_of ws before k = cond (kind_ok ws before k) (Bytes (cond (kind_at ws k == 0) 0 (size_at ws k))) Broken
+unfoldable pub live_of : List ℕ → ℕ → ℕ → Option ℕ
+live_of ws before k = cond (kind_ok ws before k) (Some (cond (kind_at ws k == 0) 0 (size_at ws k))) None
 
--- the chunks met by a walk that ended at slot k and at an address, with so many live bytes; 0 where a rule is broken
-unfoldable pub walk_end : List ℕ → ℕ → ℕ → ℕ → ℕ → ℕ
-walk_end ws k first sum n = cond (every ((k == 0) ∷ (first == block_size ws) ∷ (sum == allocated_word ws) ∷ [])) n 0
+-- the chunks met by a walk that ended here, where no rule is broken
+unfoldable pub walk_end : List ℕ → Place → Option ℕ
+walk_end ws p = cond (every ((p.k == 0) ∷ (p.first == block_size ws) ∷ (p.sum == allocated_word ws) ∷ [])) (Some p.n) None
+
+-- those of the whole walk
+unfoldable pub whole_walk : List ℕ → Option ℕ
+whole_walk ws = cond (walked ws) (Some (length (chunks_of ws))) None

@@ -1,9 +1,19 @@
-// Ids by buckets: 512 heads, then for each slot a link to the slot before it in its bucket. 0 ends a chain.
-ghost use Rattle.std.specs.Prelude.{◌≡◌, ◌+◌, ◌*◌, ◌%◌, ◌^◌, ◌<◌, ◌≤◌, true};
-ghost use Rattle.table.specs.Layout.{is_table, slot_count, Slot};
-ghost use Rattle.words.specs.Ids.{AllAtMost, Ends, AllEnd, bucket_of, on_chain, is_new, entered};
+// Ids by buckets, so that one met again is found fast. A set of std would need a heap.
+ghost use Rattle.std.specs.Prelude.{◌≡◌, ◌+◌, ◌*◌, ◌%◌, ◌^◌, ◌<◌, ◌≤◌, true, length};
+ghost use Rattle.table.specs.Layout.{slot_count, Slot};
+ghost use Rattle.words.specs.Ids.{AllAtMost, AllZero, Ends, AllEnd, bucket_of, on_chain, is_new, entered};
+ghost use Rattle.walking.specs.Answers.{heads_and_links};
 
+use crate::table_words::TableWords;
 use table::layout;
+use table::layout::Field;
+
+// The last slot that was entered in each bucket, and for each slot the one before it in its bucket; 0 is none.
+#[derive(Drop)]
+pub struct Buckets {
+    heads: [u16; 512],
+    links: [u16; 512],
+}
 
 // x * (2^by + 1), of which 64 bits stay.
 fn with_shifted(x: u64, by: u64) -> u64
@@ -24,34 +34,52 @@ fn bucket(id: u64) -> usize
     (spread >> 55) as usize
 }
 
-// Whether a slot on the chain from this one has the id.
-fn on_chain(w: &[u64], buckets: &[u16; 1024], start: u64, id: u64) -> bool
-    requires { (is_table w.now ≡ true) × AllAtMost (slot_count w.now) buckets.now × (start ≤ slot_count w.now) × Ends buckets.now start }
-    ensures { result ≡ on_chain w.now buckets.now 512 start id }
-{
-    let mut k = start;
-    while k != 0 {
-        if layout::id(w, k) == id {
-            return true;
+impl Buckets {
+    // Buckets in which nothing was entered.
+    pub fn new() -> Buckets
+        ensures long { length (heads_and_links result) ≡ 1024 }
+        ensures zero { AllZero (heads_and_links result) }
+    {
+        Buckets {
+            heads: [0; 512],
+            links: [0; 512],
         }
-        k = buckets[511 + k as usize] as u64;
     }
-    false
-}
 
-// Enters slot k into its id's bucket, where no slot with this id is there yet.
-pub fn enter(w: &[u64], buckets: &mut [u16; 1024], k: u64) -> bool
-    requires { (is_table w.now ≡ true) × AllAtMost (slot_count w.now) buckets.old × AllEnd buckets.old × Slot w.now k }
-    ensures value { result ≡ is_new w.now buckets.old k }
-    ensures buckets_after { result ≡ true → buckets.new ≡ entered w.now buckets.old k }
-{
-    let id = layout::id(w, k);
-    let h = bucket(id);
-    let start = buckets[h];
-    buckets[h] = k as u16;
-    if on_chain(w, buckets, start as u64, id) {
-        return false;
+    // Whether a slot on the chain from this one has the id.
+    fn on_chain(&self, table: TableWords, start: u64, id: u64) -> bool
+        requires { AllAtMost (slot_count table.words.now) (heads_and_links self.now)
+            × (start ≤ slot_count table.words.now)
+            × Ends (heads_and_links self.now) start }
+        ensures { result ≡ on_chain table.entry.words.now (heads_and_links self.now) 512 start id }
+    {
+        let mut k = start;
+        while k != 0 {
+            if layout::word(table.words, k, Field::Id) == id {
+                return true;
+            }
+            k = self.links[k as usize - 1] as u64;
+        }
+        false
     }
-    buckets[511 + k as usize] = start;
-    true
+
+    // Enters slot k into its id's bucket, where no slot with this id is there yet.
+    pub fn enter(&mut self, table: TableWords, k: u64) -> bool
+        requires { AllAtMost (slot_count table.words.now) (heads_and_links self.old)
+            × AllEnd (heads_and_links self.old)
+            × Slot table.words.now k }
+        ensures value { result ≡ is_new table.entry.words.now (heads_and_links self.old) k }
+        ensures after { result ≡ true
+            → heads_and_links self.new ≡ entered table.entry.words.now (heads_and_links self.old) k }
+    {
+        let id = layout::word(table.words, k, Field::Id);
+        let h = bucket(id);
+        let start = self.heads[h];
+        self.heads[h] = k as u16;
+        if self.on_chain(table, start as u64, id) {
+            return false;
+        }
+        self.links[k as usize - 1] = start;
+        true
+    }
 }

@@ -4,4 +4,4 @@ use Rattle.soundness.proofs.others_zero.Goals as goal
 
 pub returns : goal.returns
 returns c =
-    rw (c.previous.ensures, c.next.ensures, c.label.ensures, c.kind.ensures, c.first_byte.ensures, c.size.ensures) (by_bits _ _)
+    rw (c.word.ensures, c.word-2.ensures, c.word-3.ensures, c.word-4.ensures, c.word-5.ensures, c.word-6.ensures) (by_bits _ _)

@@ -1,30 +1,27 @@
 -- `soundness::rest_empty` meets its contract. Assumes nothing.
-use Rattle.std.proofs.Common.{sym, ◌∙◌, arith}
-use Rattle.soundness.proofs.Ways.{found_all, none_left, skip-used, not_empty, one_found}
+use Rattle.std.proofs.Common.{refl, sym, ◌∙◌}
+use Rattle.soundness.proofs.Ways.{found_all, at_end, skip-used, not_empty, one_found}
 use Rattle.soundness.proofs.rest_empty.Goals as goal
 
-pub returns-then-k-eq0 : goal.returns-then-k-eq0
-returns-then-k-eq0 c = sym (none_left _ _ _ c.if-k-eq0.true c.loop-left-test.true) ∙ c.loop-left.invariant.1
+pub loop-k-init : goal.loop-k-init
+loop-k-init c = refl
 
-pub loop-left-preserved-then-id-ne0 : goal.loop-left-preserved-then-id-ne0
-loop-left-preserved-then-id-ne0 c =
-    let l = c.loop-left.invariant in (
-      omega (arith, l.0),
-      sym (skip-used _ _ _ c.if-k-eq0.false c.loop-left-test.true (λ e. c.if-id-ne0.true (c.id.ensures ∙ e))) ∙ l.1,
-    )
+pub returns-then-left-eq0 : goal.returns-then-left-eq0
+returns-then-left-eq0 c = found_all _ _ _ c.if-left-eq0.true ∙ c.loop-k.invariant
+
+pub loop-k-preserved-then-word-ne0 : goal.loop-k-preserved-then-word-ne0
+loop-k-preserved-then-word-ne0 c =
+    sym (skip-used _ _ _ c.loop-k-test.true c.if-left-eq0.false (λ e. c.if-word-ne0.true (c.word.ensures ∙ e))) ∙ c.loop-k.invariant
 
 pub returns-then-not-others_zero : goal.returns-then-not-others_zero
 returns-then-not-others_zero c =
-    sym (not_empty _ _ _ c.if-k-eq0.false c.loop-left-test.true (sym c.id.ensures ∙ c.if-id-ne0.false) (sym c.others_zero.ensures ∙ c.if-not-others_zero.true))
-    ∙ c.loop-left.invariant.1
+    sym (not_empty _ _ _ c.loop-k-test.true c.if-left-eq0.false (sym c.word.ensures ∙ c.if-word-ne0.false) (sym c.others_zero.ensures ∙ c.if-not-others_zero.true))
+    ∙ c.loop-k.invariant
 
-pub loop-left-preserved : goal.loop-left-preserved
-loop-left-preserved c =
-    let l = c.loop-left.invariant in (
-      omega (arith, l.0),
-      sym (one_found _ _ _ c.if-k-eq0.false c.loop-left-test.true (sym c.id.ensures ∙ c.if-id-ne0.false) (sym c.others_zero.ensures ∙ c.if-not-others_zero.false))
-          ∙ l.1,
-    )
+pub loop-k-preserved : goal.loop-k-preserved
+loop-k-preserved c =
+    sym (one_found _ _ _ c.loop-k-test.true c.if-left-eq0.false (sym c.word.ensures ∙ c.if-word-ne0.false) (sym c.others_zero.ensures ∙ c.if-not-others_zero.false))
+    ∙ c.loop-k.invariant
 
 pub returns : goal.returns
-returns c = found_all _ _ _ c.loop-left-test.false ∙ c.loop-left.invariant.1
+returns c = at_end _ _ _ c.loop-k-test.false ∙ c.loop-k.invariant

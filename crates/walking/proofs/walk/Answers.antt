@@ -1,92 +1,98 @@
 -- `walking::walk` meets its contract. Assumes nothing.
 use Rattle.std.proofs.Common.{sym, ◌∙◌, arith}
-use Rattle.table.specs.Layout.{at}
+use Rattle.table.specs.Layout.{table_shape}
 use Rattle.walking.proofs.Turns.{ending, first-turn, is_slot, bad-links, bad-id, known-id, bad-size, bad_kind, Passed, exactly, next-turn, live-fits, last_turn}
+use Rattle.walking.proofs.walk.Goals.{In_ok-live}
 use Rattle.walking.proofs.walk.Goals as goal
 
-pub loop-s-init : goal.loop-s-init
-loop-s-init c = rw c.first_slot-k.ensures (first-turn _ _ c.requires.3 c.requires.4)
+pub head-top-requires : goal.head-top-requires
+head-top-requires c = omega (arith, table_shape _ c.requires.0)
+
+pub head-requires : goal.head-requires
+head-requires c = omega (arith, table_shape _ c.requires.0)
+
+pub loop-table-init : goal.loop-table-init
+loop-table-init c = rw (c.start-at.ensures, c.head.ensures) (first-turn _ _ c.new-buckets.ensures.long c.new-buckets.ensures.zero)
 
 pub links_ok-requires : goal.links_ok-requires
-links_ok-requires c = is_slot c.args.w.now _ _ c.requires.1 (sym c.is_up_to.ensures ∙ c.loop-s-test.true)
+links_ok-requires c = is_slot _ _ _ _ c.slot_count-s.ensures c.is_up_to.ensures c.loop-table-test.true
 
 pub returns-then-not-links_ok : goal.returns-then-not-links_ok
 returns-then-not-links_ok c =
-    let slot = is_slot c.args.w.now _ _ c.requires.1 (sym c.is_up_to.ensures ∙ c.loop-s-test.true) in
-    bad-links c.loop-s.invariant slot (sym c.links_ok.ensures ∙ c.if-not-links_ok.true)
+    bad-links c.loop-table.invariant (is_slot _ _ _ _ c.slot_count-s.ensures c.is_up_to.ensures c.loop-table-test.true)
+    (sym c.links_ok.ensures ∙ c.if-not-links_ok.true)
 
-pub id-requires : goal.id-requires
-id-requires c = is_slot c.args.w.now _ _ c.requires.1 (sym c.is_up_to.ensures ∙ c.loop-s-test.true)
+pub word-requires : goal.word-requires
+word-requires c = is_slot _ _ _ _ c.slot_count-s.ensures c.is_up_to.ensures c.loop-table-test.true
 
 pub returns-then-not-is_up_to : goal.returns-then-not-is_up_to
 returns-then-not-is_up_to c =
-    let slot = is_slot c.args.w.now _ _ c.requires.1 (sym c.is_up_to.ensures ∙ c.loop-s-test.true) in
-    bad-id c.loop-s.invariant slot
-    (rw (← c.id.ensures, ← c.next_id-top.ensures) (sym c.is_up_to-in-loop-s.ensures ∙ c.if-not-is_up_to.true))
+    bad-id c.loop-table.invariant (is_slot _ _ _ _ c.slot_count-s.ensures c.is_up_to.ensures c.loop-table-test.true)
+    (rw (← c.word.ensures, ← c.head-top.ensures) (sym c.is_up_to-in-loop-table.ensures ∙ c.if-not-is_up_to.true))
 
 pub enter-requires : goal.enter-requires
 enter-requires c =
-    let table = c.requires.0 in
-    let turn = c.loop-s.invariant in
-    (table, turn.within, ending turn table, is_slot c.args.w.now _ _ c.requires.1 (sym c.is_up_to.ensures ∙ c.loop-s-test.true))
+    let turn = c.loop-table.invariant in (
+      turn.within,
+      ending turn c.requires.0,
+      is_slot _ _ _ _ c.slot_count-s.ensures c.is_up_to.ensures c.loop-table-test.true,
+    )
 
 pub returns-then-not-enter : goal.returns-then-not-enter
 returns-then-not-enter c =
-    let slot = is_slot c.args.w.now _ _ c.requires.1 (sym c.is_up_to.ensures ∙ c.loop-s-test.true) in
-    known-id c.loop-s.invariant c.requires.0 slot (sym c.enter.ensures.value ∙ c.if-not-enter.true)
+    known-id c.loop-table.invariant c.requires.0
+    (is_slot _ _ _ _ c.slot_count-s.ensures c.is_up_to.ensures c.loop-table-test.true)
+    (sym c.enter.ensures.value ∙ c.if-not-enter.true)
 
-pub size-requires : goal.size-requires
-size-requires c = is_slot c.args.w.now _ _ c.requires.1 (sym c.is_up_to.ensures ∙ c.loop-s-test.true)
+pub word-requires-in-loop-table : goal.word-requires-in-loop-table
+word-requires-in-loop-table c = is_slot _ _ _ _ c.slot_count-s.ensures c.is_up_to.ensures c.loop-table-test.true
 
-pub returns-then-end-first : goal.returns-then-end-first
-returns-then-end-first c =
-    let slot = is_slot c.args.w.now _ _ c.requires.1 (sym c.is_up_to.ensures ∙ c.loop-s-test.true) in
-    bad-size c.loop-s.invariant c.wrapping_add_u64-end.result (omega (arith, c.type_inv.w 0)) slot
-    (rw (← c.size.ensures) c.wrapping_add_u64-end.ensures.value) c.if-end-first.true
+pub returns-then-end-at : goal.returns-then-end-at
+returns-then-end-at c =
+    bad-size c.loop-table.invariant c.wrapping_add_u64-end.result (omega (arith, c.type_inv.w 0))
+    (is_slot _ _ _ _ c.slot_count-s.ensures c.is_up_to.ensures c.loop-table-test.true)
+    (rw (← c.word-in-loop-table.ensures) c.wrapping_add_u64-end.ensures.value) c.if-end-at.true
 
 pub live_bytes-requires : goal.live_bytes-requires
-live_bytes-requires c = is_slot c.args.w.now _ _ c.requires.1 (sym c.is_up_to.ensures ∙ c.loop-s-test.true)
+live_bytes-requires c = is_slot _ _ _ _ c.slot_count-s.ensures c.is_up_to.ensures c.loop-table-test.true
 
-pub returns-in_default : goal.returns-in_default
-returns-in_default c =
-    let slot = is_slot c.args.w.now _ _ c.requires.1 (sym c.is_up_to.ensures ∙ c.loop-s-test.true) in
-    bad_kind c.loop-s.invariant slot (sym c.live_bytes.ensures ∙ c.in_default.is)
+pub returns-in_err-live : goal.returns-in_err-live
+returns-in_err-live c =
+    c.from_residual.ensures
+    ∙ bad_kind c.loop-table.invariant (is_slot _ _ _ _ c.slot_count-s.ensures c.is_up_to.ensures c.loop-table-test.true)
+    (sym c.live_bytes.ensures ∙ c.in_err-live.was)
 
-pub overflow_add-sum : goal.overflow_add-sum
-overflow_add-sum c =
-    let all : Passed c.loop-s.invariant c.wrapping_add_u64-end.result c.in-Bytes.live = record {
-      table = c.requires.0;
-      word = omega (arith, c.type_inv.w (at c.loop-s.k 1));
-      slot = is_slot c.args.w.now _ _ c.requires.1 (sym c.is_up_to.ensures ∙ c.loop-s-test.true);
-      links = sym c.links_ok.ensures ∙ c.if-not-links_ok.false;
-      id = rw (← c.id.ensures, ← c.next_id-top.ensures) (sym c.is_up_to-in-loop-s.ensures ∙ c.if-not-is_up_to.false);
-      new = sym c.enter.ensures.value ∙ c.if-not-enter.false;
-      wraps = rw (← c.size.ensures) c.wrapping_add_u64-end.ensures.value;
-      rises = c.if-end-first.false;
-      adds = sym c.live_bytes.ensures ∙ c.in-Bytes.is;
-    } in
+passed : (c : In_ok-live) → Passed c.loop-table.invariant c.wrapping_add_u64-end.result c.in_ok-live.live
+passed c = record {
+  table = c.requires.0;
+  word = rw (← c.word-in-loop-table.ensures) c.word-in-loop-table.type_inv;
+  slot = is_slot _ _ _ _ c.slot_count-s.ensures c.is_up_to.ensures c.loop-table-test.true;
+  links = sym c.links_ok.ensures ∙ c.if-not-links_ok.false;
+  id = rw (← c.word.ensures, ← c.head-top.ensures) (sym c.is_up_to-in-loop-table.ensures ∙ c.if-not-is_up_to.false);
+  new = sym c.enter.ensures.value ∙ c.if-not-enter.false;
+  wraps = rw (← c.word-in-loop-table.ensures) c.wrapping_add_u64-end.ensures.value;
+  rises = c.if-end-at.false;
+  adds = sym c.live_bytes.ensures ∙ c.in_ok-live.was;
+}
+
+pub word-requires-in-loop-table-2 : goal.word-requires-in-loop-table-2
+word-requires-in-loop-table-2 c = is_slot _ _ _ _ c.slot_count-s.ensures c.is_up_to.ensures c.loop-table-test.true
+
+pub word-requires-in-loop-table-3 : goal.word-requires-in-loop-table-3
+word-requires-in-loop-table-3 c = is_slot _ _ _ _ c.slot_count-s.ensures c.is_up_to.ensures c.loop-table-test.true
+
+pub overflow_add-at : goal.overflow_add-at
+overflow_add-at c =
+    let all = passed (goal.at.overflow_add-at c).In_ok-live in
     omega (arith, live-fits _ all, exactly _ all, all.wraps)
 
-pub kind-before-requires : goal.kind-before-requires
-kind-before-requires c = is_slot c.args.w.now _ _ c.requires.1 (sym c.is_up_to.ensures ∙ c.loop-s-test.true)
+pub loop-table-preserved : goal.loop-table-preserved
+loop-table-preserved c =
+    let all = passed (goal.at.loop-table-preserved c).In_ok-live in
+    rw (c.word-in-loop-table-2.ensures, c.word-in-loop-table-3.ensures, c.enter.ensures.after (c.enter.ensures.value ∙ all.new)) (next-turn _ all)
 
-pub next-k-requires : goal.next-k-requires
-next-k-requires c = is_slot c.args.w.now _ _ c.requires.1 (sym c.is_up_to.ensures ∙ c.loop-s-test.true)
-
-pub loop-s-preserved : goal.loop-s-preserved
-loop-s-preserved c =
-    let all : Passed c.loop-s.invariant c.wrapping_add_u64-end.result c.in-Bytes.live = record {
-      table = c.requires.0;
-      word = omega (arith, c.type_inv.w (at c.loop-s.k 1));
-      slot = is_slot c.args.w.now _ _ c.requires.1 (sym c.is_up_to.ensures ∙ c.loop-s-test.true);
-      links = sym c.links_ok.ensures ∙ c.if-not-links_ok.false;
-      id = rw (← c.id.ensures, ← c.next_id-top.ensures) (sym c.is_up_to-in-loop-s.ensures ∙ c.if-not-is_up_to.false);
-      new = sym c.enter.ensures.value ∙ c.if-not-enter.false;
-      wraps = rw (← c.size.ensures) c.wrapping_add_u64-end.ensures.value;
-      rises = c.if-end-first.false;
-      adds = sym c.live_bytes.ensures ∙ c.in-Bytes.is;
-    } in
-    rw (c.next-k.ensures, c.kind-before.ensures, c.enter.ensures.buckets_after (c.enter.ensures.value ∙ all.new)) (next-turn _ all)
+pub end-requires : goal.end-requires
+end-requires c = omega (arith, table_shape _ c.requires.0)
 
 pub returns : goal.returns
-returns c = c.walk_end.ensures ∙ last_turn c.loop-s.invariant _ c.requires.1 (sym c.is_up_to.ensures ∙ c.loop-s-test.false)
+returns c = c.end.ensures ∙ last_turn c.loop-table.invariant _ c.slot_count-s.ensures (sym c.is_up_to.ensures ∙ c.loop-table-test.false)

@@ -1,10 +1,11 @@
 -- What holds at each turn of `walking::walk`, and what falls. Assumes nothing.
 use Rattle.std.proofs.Common.{◌-◌, ◌^◌}
+use Rattle.walking.specs.Answers.{heads_and_links}
 use Rattle.walking.proofs.Turns.{Turn}
 use Rattle.walking.proofs.walk.Given as goal
 
-abbrev pub invariant-loop-s : goal.invariant-loop-s
-invariant-loop-s l = Turn l.w l.buckets l.prev l.k l.first l.before l.sum l.n
+abbrev pub invariant-loop-table : goal.invariant-loop-table
+invariant-loop-table l = Turn l.w (heads_and_links l.buckets) l.at
 
-abbrev pub decreases-loop-s : goal.decreases-loop-s
-decreases-loop-s l = 2 ^ 64 - l.first
+abbrev pub decreases-loop-table : goal.decreases-loop-table
+decreases-loop-table l = 2 ^ 64 - l.at.first
