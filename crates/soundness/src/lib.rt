@@ -34,13 +34,12 @@ fn rest_empty(w: &[u64], s: u64, empty: u64) -> bool
         if left == 0 {
             return true;
         }
-        if layout::word(w, k, Field::Id) != 0 {
-            continue;
+        if layout::word(w, k, Field::Id) == 0 {
+            if !others_zero(w, k) {
+                return false;
+            }
+            left -= 1;
         }
-        if !others_zero(w, k) {
-            return false;
-        }
-        left -= 1;
     }
     left == 0
 }

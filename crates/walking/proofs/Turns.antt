@@ -161,6 +161,6 @@ module _ {ws t : List ℕ} {here : Place} (turn : Turn ws t here) where
       (λ l.
       let tests : List Bool = eqb here.k 0 ∷ eqb here.first (block_size ws) ∷ eqb here.sum (allocated_word ws) ∷ [] in
       let outside : Slot ws here.k → ⊥ =
-          λ p. clash (more _ _ (le-leb 1 here.k p.0) (more _ _ (le-leb here.k s (rw e p.1)) none)) h in
+      λ p. clash (more _ _ (le-leb 1 here.k p.0) (more _ _ (le-leb here.k s (rw e p.1)) none)) h in
       ap (λ (t : Bool). cond t (Some here.n) None) (fail tests 0 (ne_eqb here.k 0 (λ (z : here.k ≡ 0). omega arith)))
       ∙ stopped ws (past turn.walking (lt_of_not-le (λ u. outside (l, u)))))
