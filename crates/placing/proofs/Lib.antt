@@ -1,2 +1,3 @@
 -- The laws that the proofs of `placing` share. Assumes nothing.
 pub mod Placed
+pub mod Sought

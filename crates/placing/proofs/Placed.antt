@@ -17,23 +17,33 @@ use Rattle.model.proofs.Requests.{no_fault}
 use Rattle.model.specs.Soundness.{Sound}
 use Rattle.model.specs.Sums.{total-cut, allocated-cut, allocated-most}
 use Rattle.model.proofs.Totals.{free_size}
-use Rattle.table.specs.Layout.{Slot, is_table, slot_count, allocated_word, next_id, id_at, size_at, first_byte_at, previous_at}
+use Rattle.table.specs.Layout.{Slot, is_table, slot_count, allocated_word, next_id, id_at, size_at, first_byte_at}
 use Rattle.words.specs.Spots.{InSlot}
 use Rattle.words.proofs.Spots.{in_table, in_words}
 use Rattle.words.specs.Words.{encode, block_of, sound}
 use Rattle.words.proofs.Written.{known}
-use Rattle.chunks.specs.Premises.{NoneIn}
+use Rattle.chunks.specs.Premises.{FreeIn, NoneIn}
 use Rattle.chunks.specs.Sides.{previous-within}
 use Rattle.chunks.specs.Steps.{taken_whole}
 use Rattle.pieces.specs.Steps.{split_in_two}
 use Rattle.search.specs.Best.{best_slot, best_none, best-some}
 use Rattle.search.specs.Empty.{new_slot-empty}
 use Rattle.search.specs.Fit.{before_at, offset-chunk}
+use Rattle.search.specs.Slots.{some_slot, no_slot, one_slot, within, not_within, is_within}
+use Rattle.placing.proofs.Sought.{one_found, none_found}
+use Rattle.refusals.specs.declared.Refusal.{Refusal}
+use Rattle.refusals.specs.declared.Refusal.TheVariants.{NoSlot, NoRoom}
+use Rattle.refusals.specs.Refusals.{number_of}
+use Rattle.std.specs.Prelude as std
+use Rattle.std.specs.Prelude.{ok_or, Ok, Err}
+use Rattle.pieces.specs.Premises.{CanSplit}
+use Rattle.chunks.specs.declared.taking.Mark.{Mark}
 use Rattle.opening.specs.Calls.{leaves}
 use Rattle.opening.specs.Look.{table_fault}
 use Rattle.sub_allocator.specs.Answers.{Given}
-use Rattle.placing.specs.Placing.{given, placed_on, allocate_on, Chosen, Measured}
-use Rattle.opening.specs.Fault.{unfit, on-block}
+use Rattle.placing.specs.Placing.{given, mark_of, placed_on, allocate_on, Chosen, Measured}
+use Rattle.opening.specs.Fault.{turned-away, on-block}
+use Rattle.refusals.proofs.Refusals.{number-positive}
 
 module _ (ws : List ℕ) (k : ℕ) (r : Request) (h : Chosen ws k r) where
   abbrev z : Spot
@@ -127,115 +137,136 @@ module _ (ws : List ℕ) (k : ℕ) (r : Request) (h : Chosen ws k r) where
       pub measured : o - f + r.size < s → Measured ws k o (o - f + r.size) r
       measured l = record { chosen = h; offset = offset-told; bytes = bytes-told; part = omega arith }
 
-      pub whole : (id : ℕ) → id ≡ id_at ws k → s ≤ o - f + r.size → (ws' : List ℕ)
-          → ws' ≡ encode (taken_whole r.kind r.label z (block_of ws))
+      pub whole : (id : ℕ) → id ≡ id_at ws k → s ≤ o - f + r.size → (mark : Mark) → mark ≡ mark_of r → (ws' : List ℕ)
+          → ((z : Spot) → FreeIn ws k z → mark.kind ≢ 0 → ws' ≡ encode (taken_whole mark.kind mark.label z (block_of ws)))
           → (accepted (record { offset = o; id = id }), ws') ≡ placed_on ws r
       unfolding taken_whole
-      whole id i l ws' e =
-          rw (opened, e, i, id-in, offset-told)
+      whole id i l mark q ws' take =
+          let e = take z h.place (λ n. kind-live (ap (λ (m : Mark). m.kind) (sym q) ∙ n)) in
+          rw (opened, e, q, i, id-in, offset-told)
           (answers r (block_of ws)
           (λ a. (accepted (record { offset = offset_in r z; id = z.chunk.id }), encode (taken_whole r.kind r.label z (block_of ws))) ≡ leaves given (λ (p : Placed). p.block) ws a) z
           (λ t n. absurd (omega (arith, size_in, bytes-told))) (λ t n u. absurd (omega (arith, size_in, bytes-told)))
           (λ t n u. absurd (omega (arith, size_in, bytes-told))) (λ t. refl))
 
-module _ (ws : List ℕ) (k o n : ℕ) (r : Request) (c : Chosen ws k r) (offset : o ≡ offset_in r c.spot)
-    (bytes : n ≡ taken r c.spot) (part : n < size_at ws k) where
-  abbrev x : Spot
-  x = c.spot
+-- where a part of the chunk is taken
+part_of : (ws : List ℕ) (k o n : ℕ) (r : Request) (c : Chosen ws k r) → o ≡ offset_in r c.spot → n ≡ taken r c.spot → n < size_at ws k
+    → (P : Reply Given × List ℕ → Type 0)
+    → (next_id ws ≡ no_id → P (refused 8, ws))
+    → (next_id ws ≢ no_id → slot_count ws < new_slot (block_of ws) → P (refused 9, ws))
+    → (next_id ws ≢ no_id → new_slot (block_of ws) ≤ slot_count ws
+    → P (accepted (record { offset = o; id = next_id ws }), encode (split_in_two (new_slot (block_of ws)) n r.kind r.label c.spot (block_of ws))))
+    → P (placed_on ws r)
+unfolding split_in_two block_of
+part_of ws k o n r c offset bytes part P none_left none_empty piece =
+    rw (opened ws k r c)
+    (answers r (block_of ws) (λ a. P (leaves given (λ (p : Placed). p.block) ws a)) c.spot
+    (λ t e. none_left e) (λ t e s. none_empty e s) (λ t e s. rw (offset, bytes) at (piece e s))
+    (λ t. absurd (omega (arith, size_in ws k r c))))
 
-  -- where a part of the chunk is taken
-  part_of : (P : Reply Given × List ℕ → Type 0)
-      → (next_id ws ≡ no_id → P (refused 8, ws))
-      → (next_id ws ≢ no_id → slot_count ws < new_slot (block_of ws) → P (refused 9, ws))
-      → (next_id ws ≢ no_id → new_slot (block_of ws) ≤ slot_count ws
-      → P (accepted (record { offset = o; id = next_id ws }), encode (split_in_two (new_slot (block_of ws)) n r.kind r.label x (block_of ws))))
-      → P (placed_on ws r)
-  unfolding split_in_two block_of
-  part_of P no-id no_slot piece =
-      rw (opened ws k r c)
-      (answers r (block_of ws) (λ a. P (leaves given (λ (p : Placed). p.block) ws a)) x
-      (λ t e. no-id e) (λ t e s. no_slot e s) (λ t e s. rw (offset, bytes) at (piece e s))
-      (λ t. absurd (omega (arith, size_in ws k r c))))
+module _ (ws : List ℕ) (k o n : ℕ) (r : Request) (m : Measured ws k o n r) where
+  abbrev c : Chosen ws k r
+  c = m.chosen
 
-  -- id, s and new are what the code reads: the next id, the slots, and the lowest empty one
+  abbrev lowest : ℕ
+  lowest = new_slot (block_of ws)
+
+  -- id is what the code reads, the next id
   module _ (id : ℕ) (is-next : id ≡ next_id ws) where
-    pub no-id : id ≡ no_id → (refused 8, ws) ≡ placed_on ws r
-    no-id e =
-        let n : next_id ws ≡ no_id = sym is-next ∙ e in
-        part_of (λ a. (refused 8, ws) ≡ a) (λ q. refl) (λ q u. absurd (q n)) (λ q u. absurd (q n))
+    pub no_id_left : id ≡ no_id → (refused 8, ws) ≡ placed_on ws r
+    no_id_left e =
+        let last : next_id ws ≡ no_id = sym is-next ∙ e in
+        part_of ws k o n r c m.offset m.bytes m.part (λ a. (refused 8, ws) ≡ a) (λ q. refl) (λ q u. absurd (q last))
+        (λ q u. absurd (q last))
 
-    module _ (more : id ≢ no_id) (s new : ℕ) (is-count : s ≡ slot_count ws) (is-empty : new ≡ new_slot (block_of ws)) where
-      pub no_slot : s < new → (refused 9, ws) ≡ placed_on ws r
-      no_slot u =
-          part_of (λ a. (refused 9, ws) ≡ a) (λ q. absurd (more (is-next ∙ q))) (λ q v. refl) (λ q v. absurd (omega arith))
+    module _ (more : id ≢ no_id) (sought : std.Option ℕ) (is-sought : sought ≡ within (slot_count ws) lowest) where
+      -- no slot is empty
+      pub no_slot_left : (q : Refusal) → Err q ≡ ok_or sought NoSlot
+          → (refused (number_of q), ws) ≡ placed_on ws r
+      no_slot_left q e =
+          let f = none_found NoSlot sought e in
+          rw f.1
+          (part_of ws k o n r c m.offset m.bytes m.part (λ a. (refused 9, ws) ≡ a) (λ q. absurd (more (is-next ∙ q))) (λ q v. refl)
+          (λ q v. absurd (omega (arith, not_within (slot_count ws) lowest (sym is-sought ∙ f.0)))))
 
-      module _ (some : new ≤ s) where
-        pub splits : id < 2 ^ 64
-            → Slot ws k × Slot ws new × (previous_at ws k ≤ slot_count ws) × (n ≤ size_at ws k)
-            × (first_byte_at ws k + n < 2 ^ 64) × (allocated_word ws + n < 2 ^ 64) × (next_id ws + 1 < 2 ^ 64)
+      -- the lowest one is
+      module _ (new : ℕ) (found : Ok new ≡ ok_or sought NoSlot) where
+        is-empty : (lowest ≡ new) × (lowest ≤ slot_count ws)
+        is-empty = is_within (slot_count ws) lowest new (sym is-sought ∙ one_found NoSlot sought found)
+
+        pub splits : id < 2 ^ 64 → CanSplit ws k new n
         unfolding block_of
         splits t =
             let z = size_in ws k r c in
-            let l = (new_slot-empty (block_of ws) (omega arith)).0 in (
+            let u = is-empty in
+            let l = (new_slot-empty (block_of ws) u.1).0 in (
               slot-in ws k r c,
               (omega arith, omega arith),
               previous-within c.place.place,
-              omega arith,
-              omega (arith, in_block ws k r c, first-in ws k r c),
-              omega (arith, live-bytes ws k r c),
+              omega (arith, m.part),
+              omega (arith, m.part, in_block ws k r c, first-in ws k r c),
+              omega (arith, m.part, live-bytes ws k r c),
               omega arith,
             )
 
-        pub new-unused : NoneIn ws new
+        new-unused : NoneIn ws new
         unfolding block_of
-        new-unused = rw is-empty (new_slot-empty (block_of ws) (omega arith)).1
+        new-unused = let u = is-empty in subst (NoneIn ws) u.0 (new_slot-empty (block_of ws) u.1).1
 
-        pub piece : (ws' : List ℕ) → ws' ≡ encode (split_in_two new n r.kind r.label x (block_of ws))
+        pub piece : (mark : Mark) → mark ≡ mark_of r → (ws' : List ℕ)
+            → ((z : Spot) → FreeIn ws k z → NoneIn ws new → mark.kind ≢ 0
+            → ws' ≡ encode (split_in_two new n mark.kind mark.label z (block_of ws)))
             → (accepted (record { offset = o; id = id }), ws') ≡ placed_on ws r
-        piece ws' w =
-            rw (w, is-next, is-empty)
-            (part_of (λ a. (accepted (record { offset = o; id = next_id ws }), encode (split_in_two (new_slot (block_of ws)) n r.kind r.label x (block_of ws))) ≡ a)
-            (λ q. absurd (more (is-next ∙ q))) (λ q v. absurd (omega arith)) (λ q v. refl))
+        piece mark i ws' split =
+            let w = split c.spot c.place new-unused (λ z. kind-live ws k r c (ap (λ (m : Mark). m.kind) (sym i) ∙ z)) in
+            let u = is-empty in
+            rw (w, i, is-next, ← u.0)
+            (part_of ws k o n r c m.offset m.bytes m.part (λ a. (accepted (record { offset = o; id = next_id ws }), encode (split_in_two lowest n r.kind r.label c.spot (block_of ws))) ≡ a)
+            (λ q. absurd (more (is-next ∙ q))) (λ q v. absurd (omega (arith, u.1))) (λ q v. refl))
 
 -- ---- the call
 
 module _ (ws : List ℕ) (r : Request) where
   -- a table that is not looked into
-  pub no_block : table_fault ws ≢ 0 → (refused (table_fault ws), ws) ≡ allocate_on ws r
+  pub no_block : (q : Refusal) → number_of q ≡ table_fault ws → (refused (number_of q), ws) ≡ allocate_on ws r
   unfolding allocate_on
-  no_block n = sym (ap (λ (a : Reply Placed). leaves given (λ (p : Placed). p.block) ws a) (unfit ws _ n))
+  no_block q e = ap (λ (a : Reply Placed). leaves given (λ (p : Placed). p.block) ws a) (turned-away ws (place r) q e)
 
   module _ (t : is_table ws ≡ true) (s : sound ws ≡ true) where
     on-request : allocate_on ws r ≡ leaves given (λ (p : Placed). p.block) ws (place r (block_of ws))
     unfolding allocate_on
     on-request = rw (on-block ws (place r) t s)
 
-    pub ill-formed : fault r ≢ 0 → (refused (fault r), ws) ≡ allocate_on ws r
+    pub ill_formed : (q : Refusal) → number_of q ≡ fault r → (refused (number_of q), ws) ≡ allocate_on ws r
     unfolding place
-    ill-formed n = go (fault r) n ∙ sym on-request
+    ill_formed q e = rw e (go (fault r) (λ (z : fault r ≡ 0). number-positive q (e ∙ z)) ∙ sym on-request)
       where
         go : (f : ℕ) → f ≢ 0 → (refused f, ws) ≡ leaves given (λ (p : Placed). p.block) ws (unless_fault f (place_in r (block_of ws) (chosen r (block_of ws))))
         go zero n = absurd (n refl)
         go (suc f) n = refl
 
     -- a well-formed request goes into the chunk that is chosen
-    pub on-chosen : fault r ≡ 0 → placed_on ws r ≡ allocate_on ws r
-    unfolding place placed_on
-    on-chosen e = sym (on-request ∙ rw e)
+    module _ (formed : fault r ≡ 0) (sought : std.Option ℕ) (is-sought : sought ≡ some_slot (best_slot ws r)) where
+      pub on_chosen : placed_on ws r ≡ allocate_on ws r
+      unfolding place placed_on
+      on_chosen = sym (on-request ∙ rw formed)
 
-    -- if there is one
-    pub no_room : fault r ≡ 0 → (k : ℕ) → k ≡ best_slot ws r → k ≡ 0 → (refused 7, ws) ≡ allocate_on ws r
-    unfolding placed_on
-    no_room e k q z = sym (sym (on-chosen e) ∙ rw (best_none ws s r (sym q ∙ z)))
+      -- if there is one
+      pub no_room : (q : Refusal) → Err q ≡ ok_or sought NoRoom → (refused (number_of q), ws) ≡ allocate_on ws r
+      unfolding placed_on
+      no_room q e =
+          let f = none_found NoRoom sought e in
+          rw f.1 (sym (sym on_chosen ∙ rw (best_none ws s r (no_slot (best_slot ws r) (sym is-sought ∙ f.0)))))
 
-    pub chosen-in : fault r ≡ 0 → (k : ℕ) → k ≡ best_slot ws r → k ≢ 0 → Chosen ws k r
-    chosen-in e k q n =
-        let b = best-some ws s r (λ z. n (q ∙ z)) in
-        record {
-          table = t;
-          sound = s;
-          formed = e;
-          spot = b.0;
-          chosen = b.1;
-          place = record { place = subst (λ (j : ℕ). InSlot ws j b.0) (sym q) b.2; free = b.3; unnamed = b.4 };
-        }
+      pub chosen_in : (k : ℕ) → Ok k ≡ ok_or sought NoRoom → Chosen ws k r
+      chosen_in k e =
+          let f = one_slot (best_slot ws r) k (sym is-sought ∙ one_found NoRoom sought e) in
+          let b = best-some ws s r (λ (z : best_slot ws r ≡ 0). f.1 (sym f.0 ∙ z)) in
+          record {
+            table = t;
+            sound = s;
+            formed = formed;
+            spot = b.0;
+            chosen = b.1;
+            place = record { place = subst (λ (j : ℕ). InSlot ws j b.0) f.0 b.2; free = b.3; unnamed = b.4 };
+          }

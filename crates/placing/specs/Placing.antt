@@ -8,11 +8,16 @@ use Rattle.sub_allocator.specs.Answers.{Given}
 use Rattle.table.specs.Layout.{is_table, size_at}
 use Rattle.words.specs.Words.{block_of, sound, decode}
 use Rattle.chunks.specs.Premises.{FreeIn}
+use Rattle.chunks.specs.declared.taking.Mark.{Mark}
 use Rattle.opening.specs.Look.{on_table}
 use Rattle.opening.specs.Calls.{leaves}
 
 abbrev pub given : Placed → Given
 given p = record { offset = p.offset; id = p.id }
+
+-- what the chunk that is given is marked with
+abbrev pub mark_of : Request → Mark
+mark_of r = record { kind = r.kind; label = r.label }
 
 -- what placing in the chunk that is chosen tells and leaves
 unfoldable pub placed_on : List ℕ → Request → Reply Given × List ℕ

@@ -1,34 +1,27 @@
 -- `placing::allocate` meets its contract. Assumes nothing.
-use Rattle.std.proofs.Common.{sym, ◌∙◌}
-use Rattle.opening.specs.Fault.{is-fit}
-use Rattle.placing.proofs.Placed.{no_block, ill-formed, no_room, on-chosen, chosen-in}
+use Rattle.std.proofs.Common.{rules}
+use Rattle.placing.proofs.Placed.{no_block, ill_formed, no_room, on_chosen, chosen_in}
 use Rattle.placing.proofs.allocate.Goals as goal
 
-pub returns-then-unfit-ne0 : goal.returns-then-unfit-ne0
-returns-then-unfit-ne0 c =
-    rw c.table_fault-unfit.ensures (no_block _ _ (λ e. c.if-unfit-ne0.true (c.table_fault-unfit.ensures ∙ e)))
+pub returns-in_err-table : goal.returns-in_err-table
+returns-in_err-table c = search (rules, no_block)
 
-pub returns-then-fault-ne0 : goal.returns-then-fault-ne0
-returns-then-fault-ne0 c =
-    let t = is-fit _ (sym c.table_fault-unfit.ensures ∙ c.if-unfit-ne0.false) in
-    rw c.fault-fault.ensures (ill-formed _ _ t.0 t.1 (λ e. c.if-fault-ne0.true (c.fault-fault.ensures ∙ e)))
+pub returns-in_err-request : goal.returns-in_err-request
+returns-in_err-request c = let t = c.in_ok-table.table in search (rules, ill_formed)
 
-pub best-k-requires : goal.best-k-requires
-best-k-requires c =
-    let t = is-fit _ (sym c.table_fault-unfit.ensures ∙ c.if-unfit-ne0.false) in
-    (t.0, t.1, sym c.fault-fault.ensures ∙ c.if-fault-ne0.false)
-
-pub returns-then-k-eq0 : goal.returns-then-k-eq0
-returns-then-k-eq0 c =
-    let t = is-fit _ (sym c.table_fault-unfit.ensures ∙ c.if-unfit-ne0.false) in
-    no_room _ _ t.0 t.1 (sym c.fault-fault.ensures ∙ c.if-fault-ne0.false) _ c.best-k.ensures c.if-k-eq0.true
+pub returns-in_err-k : goal.returns-in_err-k
+returns-in_err-k c =
+    let t = c.in_ok-table.table in
+    search
+    (rules, no_room _ _ t.table t.sound c.in_ok-request.request.well_formed _ c.best.ensures _ c.in_err-k.ensures.value)
 
 pub place_in-requires : goal.place_in-requires
 place_in-requires c =
-    let t = is-fit _ (sym c.table_fault-unfit.ensures ∙ c.if-unfit-ne0.false) in
-    chosen-in _ _ t.0 t.1 (sym c.fault-fault.ensures ∙ c.if-fault-ne0.false) _ c.best-k.ensures c.if-k-eq0.false
+    let t = c.in_ok-table.table in
+    search
+    (rules, chosen_in _ _ t.table t.sound c.in_ok-request.request.well_formed _ c.best.ensures _ c.in_ok-k.ensures.value)
 
 pub returns : goal.returns
 returns c =
-    let t = is-fit _ (sym c.table_fault-unfit.ensures ∙ c.if-unfit-ne0.false) in
-    c.place_in.ensures ∙ on-chosen _ _ t.0 t.1 (sym c.fault-fault.ensures ∙ c.if-fault-ne0.false)
+    let t = c.in_ok-table.table in
+    search (rules, on_chosen _ _ t.table t.sound c.in_ok-request.request.well_formed _ c.best.ensures)

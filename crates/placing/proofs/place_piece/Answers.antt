@@ -1,31 +1,20 @@
 -- `placing::place_piece` meets its contract. Assumes nothing.
-use Rattle.std.proofs.Common.{arith}
-use Rattle.placing.proofs.Placed.{no-id, no_slot, splits, new-unused, piece, kind-live}
+use Rattle.std.proofs.Common.{rules, arith}
+use Rattle.placing.proofs.Placed.{no_id_left, no_slot_left, splits, piece}
 use Rattle.placing.proofs.place_piece.Goals as goal
 
 pub returns-then-id : goal.returns-then-id
-returns-then-id c =
-    let m = c.requires in
-    no-id _ _ _ _ _ m.chosen m.offset m.bytes m.part _ c.next_id-id.ensures c.if-id.true
+returns-then-id c = no_id_left _ _ _ _ _ c.requires _ c.head-id.ensures c.if-id.true
 
-pub returns-then-slot_count-new : goal.returns-then-slot_count-new
-returns-then-slot_count-new c =
-    let m = c.requires in
-    no_slot _ _ _ _ _ m.chosen m.offset m.bytes m.part _ c.next_id-id.ensures c.if-id.false _ _ c.slot_count.ensures
-    c.empty_slot-new.ensures c.if-slot_count-new.true
+pub returns-in_err-slot : goal.returns-in_err-slot
+returns-in_err-slot c =
+    search
+    (rules, no_slot_left _ _ _ _ _ c.requires _ c.head-id.ensures c.if-id.false _ c.empty_slot.ensures _ c.in_err-slot.ensures.value)
 
 pub split_off-requires : goal.split_off-requires
-split_off-requires c =
-    let m = c.requires in
-    splits _ _ _ _ _ m.chosen m.offset m.bytes m.part _ c.next_id-id.ensures c.if-id.false _ _ c.slot_count.ensures
-    c.empty_slot-new.ensures (omega (arith, c.if-slot_count-new.false)) (omega arith)
+split_off-requires c = splits _ _ _ _ _ c.requires _ c.head-id.ensures c.if-id.false _ c.empty_slot.ensures _ c.in_ok-slot.ensures.value (omega arith)
 
 pub returns : goal.returns
 returns c =
-    let m = c.requires in
-    let u = c.if-slot_count-new.false in
-    piece _ _ _ _ _ m.chosen m.offset m.bytes m.part _ c.next_id-id.ensures c.if-id.false _ _ c.slot_count.ensures
-    c.empty_slot-new.ensures (omega (arith, u)) _
-    (c.split_off.ensures m.chosen.spot m.chosen.place
-    (new-unused _ _ _ _ _ m.chosen m.offset m.bytes m.part _ c.next_id-id.ensures c.if-id.false _ _ c.slot_count.ensures
-    c.empty_slot-new.ensures (omega (arith, u))) (kind-live _ _ _ m.chosen))
+    piece _ _ _ _ _ c.requires _ c.head-id.ensures c.if-id.false _ c.empty_slot.ensures _ c.in_ok-slot.ensures.value _ c.mark_of.ensures _
+    c.split_off.ensures
