@@ -13,6 +13,7 @@ use dedicated_words::give_record;
 use outs;
 use sub_allocator::request::Request;
 
+// C hands over a request as five numbers.
 #[unsafe(no_mangle)]
 pub extern "C" fn lunkaseyo_dedicated_allocate(
     record: &mut [u64; 3],

@@ -8,6 +8,7 @@ use refusals::Refusal;
 use sub_allocator::answers::Placement;
 use sub_allocator::request::Request;
 
+// As those by value, but they run the lent calls: the recorded calls of the Rust are replayed through these.
 pub fn allocate(
     block: DedicatedBlock,
     request: Request,

@@ -14,6 +14,7 @@ use refusals::Refusal;
 use sub_allocator::answers::Placement;
 use sub_allocator::request::Request;
 
+// That there are both forms, these and those by value, is a rule of the project.
 pub fn allocate(block: &mut DedicatedBlock, request: Request) -> Result<Placement, Refusal>
     ensures outcome { (reply result, block.new) ≡ allocate_in block.old (request_of request) }
     ensures err { OnErr result (block.new ≡ block.old) }
