@@ -1,12 +1,12 @@
 -- The answers of `is_sound`: the head, the walk and the other slots together decide. Assumes nothing.
-use Rattle.std.proofs.Common.{◌≡◌, ℕ, ◌-◌, ◌≤◌, Bool, true, false, cond, List, length, Some, None, refl, ap, ◌∙◌, leb-true, arith}
+use Rattle.std.proofs.Common.{◌≡◌, ℕ, ◌-◌, ◌≤◌, Bool, true, false, cond, List, length, Some, None, refl, sym, ap, ◌∙◌, leb-true, arith}
 use Rattle.laws.specs.Every.{pass, more, none, together, clash}
 use Rattle.table.specs.Layout.{is_table, slot_count, next_id}
 use Rattle.words.specs.Words.{sound, chunks_of}
 use Rattle.words.specs.Checks.{walked, chunks_walked, empty_below, checked, head_ok}
 use Rattle.words.specs.Walking.{walked-fits}
 use Rattle.words.proofs.Checked.{checked-sound}
-use Rattle.walking.specs.Answers.{whole_walk}
+use Rattle.walking.specs.Answers.{whole_walk, chunks_met, counted}
 
 pub next_known : (ws : List ℕ) → head_ok ws ≡ true → 2 ≤ next_id ws
 unfolding head_ok
@@ -23,10 +23,9 @@ walked_all ws n = go (walked ws)
 
 -- At most so many as there are slots.
 pub met-fits : (ws : List ℕ) (n : ℕ) → whole_walk ws ≡ Some n → n ≤ slot_count ws
-unfolding chunks_walked
 met-fits ws n e =
-    let w = walked_all ws n e in
-    rw (w.1, ← ap (λ (b : Bool). cond b (length (chunks_of ws)) 0) w.0) (walked-fits ws)
+    let m : n ≡ chunks_walked ws = ap chunks_met (sym e) ∙ counted ws in
+    rw m (walked-fits ws)
 
 module _ (ws : List ℕ) (i : is_table ws ≡ true) where
   refuted : (checked ws ≡ true → ⊥) → false ≡ sound ws

@@ -1,11 +1,11 @@
 -- What the parts of the walk answer. Assumes nothing.
-use Rattle.std.specs.Prelude.{ℕ, cond, List, [], ◌∷◌, ◌++◌, ◌==◌, length, Option, Some, None}
+use Rattle.std.specs.Prelude.{ℕ, cond, List, [], ◌∷◌, ◌++◌, ◌==◌, length, Option, Some, None, Bool, true, false, ◌≡◌, refl}
 use Rattle.laws.specs.Every.{every}
 use Rattle.walking.specs.declared.ids.Buckets.{Buckets}
 use Rattle.walking.specs.declared.place.Place.{Place}
 use Rattle.table.specs.Layout.{block_size, allocated_word, size_at, kind_at}
 use Rattle.words.specs.Words.{chunks_of}
-use Rattle.words.specs.Checks.{kind_ok, walked}
+use Rattle.words.specs.Checks.{kind_ok, walked, chunks_walked}
 
 -- the buckets as one list
 abbrev pub heads_and_links : Buckets → List ℕ
@@ -26,3 +26,17 @@ walk_end ws p = cond (every ((p.k == 0) ∷ (p.first == block_size ws) ∷ (p.su
 -- those of the whole walk
 unfoldable pub whole_walk : List ℕ → Option ℕ
 whole_walk ws = cond (walked ws) (Some (length (chunks_of ws))) None
+
+-- how many chunks an answer says, 0 where it has none
+abbrev pub chunks_met : Option ℕ → ℕ
+chunks_met None = 0
+chunks_met (Some n) = n
+
+-- It is the number of chunks walked.
+pub counted : (ws : List ℕ) → chunks_met (whole_walk ws) ≡ chunks_walked ws
+unfolding whole_walk chunks_walked
+counted ws = go (walked ws)
+  where
+    go : (b : Bool) → chunks_met (cond b (Some (length (chunks_of ws))) None) ≡ cond b (length (chunks_of ws)) 0
+    go true = refl
+    go false = refl

@@ -47,6 +47,7 @@ impl Buckets {
     }
 
     // Whether a slot on the chain from this one has the id.
+    #[tactic(auto, using(table::specs::Layout::table_shape))]
     fn on_chain(&self, table: TableWords, start: u64, id: u64) -> bool
         requires { AllAtMost (slot_count table.words.now) (heads_and_links self.now)
             × (start ≤ slot_count table.words.now)
@@ -63,7 +64,9 @@ impl Buckets {
         false
     }
 
-    // Enters slot k into its id's bucket, where no slot with this id is there yet.
+    // Enters slot k into its id's bucket, where no slot with this id is there yet. That every chain ends is asked for, and is no ghost
+    // field: a chain would end no more if a slot were entered twice.
+    #[tactic(auto, using(table::specs::Layout::table_shape, crate::proofs::Buckets::in_range))]
     pub fn enter(&mut self, table: TableWords, k: u64) -> bool
         requires { AllAtMost (slot_count table.words.now) (heads_and_links self.old)
             × AllEnd (heads_and_links self.old)

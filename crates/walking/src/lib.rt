@@ -17,6 +17,7 @@ use table_words::TableWords;
 use words::ranges;
 
 // Walks along "next" from address 0, and answers how many chunks it met, where no rule is broken.
+#[tactic(auto, using(table::specs::Layout::table_shape, crate::proofs::Turns::is_slot))]
 pub fn walk(w: &[u64]) -> Option<u64>
     requires { (is_table w.now ≡ true) × (2 ≤ next_id w.now) }
     ensures { result ≡ whole_walk w.now }

@@ -43,15 +43,15 @@ impl Place {
             && layout::word(w, self.k, Field::Previous) == self.prev
     }
 
-    // What the chunk adds to the bytes allocated, where its kind and label keep the rules.
+    // What the chunk adds to the bytes allocated, where its kind and label keep the rules. The kind is a number, since the word may be
+    // any before this looked at it.
     #[tactic(auto, unfolding(crate::specs::Answers::live_of, words::specs::Checks::kind_ok, laws::specs::Every::every))]
     pub fn live_bytes(self, w: &[u64]) -> Option<u64>
         requires { Slot w.now self.k }
         ensures { result ≡ live_of w.now self.before self.k }
     {
         match layout::word(w, self.k, Field::Kind) {
-            0 if self.before == 0 => None,
-            0 if layout::word(w, self.k, Field::Label) != 0 => None,
+            0 if self.before == 0 || layout::word(w, self.k, Field::Label) != 0 => None,
             0 => Some(0),
             1 | 2 => Some(layout::word(w, self.k, Field::Size)),
             _ => None,

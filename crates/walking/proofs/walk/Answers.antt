@@ -1,29 +1,16 @@
 -- `walking::walk` meets its contract. Assumes nothing.
 use Rattle.std.proofs.Common.{sym, ◌∙◌, arith}
-use Rattle.table.specs.Layout.{table_shape}
 use Rattle.walking.proofs.Turns.{ending, first-turn, is_slot, bad-links, bad-id, known-id, bad-size, bad_kind, Passed, exactly, next-turn, live-fits, last_turn}
 use Rattle.walking.proofs.walk.Goals.{In_ok-live}
 use Rattle.walking.proofs.walk.Goals as goal
 
-pub head-top-requires : goal.head-top-requires
-head-top-requires c = omega (arith, table_shape _ c.requires.0)
-
-pub head-requires : goal.head-requires
-head-requires c = omega (arith, table_shape _ c.requires.0)
-
 pub loop-table-init : goal.loop-table-init
 loop-table-init c = rw (c.start-at.ensures, c.head.ensures) (first-turn _ _ c.new-buckets.ensures.long c.new-buckets.ensures.zero)
-
-pub links_ok-requires : goal.links_ok-requires
-links_ok-requires c = is_slot _ _ _ _ c.slot_count-s.ensures c.is_up_to.ensures c.loop-table-test.true
 
 pub returns-then-not-links_ok : goal.returns-then-not-links_ok
 returns-then-not-links_ok c =
     bad-links c.loop-table.invariant (is_slot _ _ _ _ c.slot_count-s.ensures c.is_up_to.ensures c.loop-table-test.true)
     (sym c.links_ok.ensures ∙ c.if-not-links_ok.true)
-
-pub word-requires : goal.word-requires
-word-requires c = is_slot _ _ _ _ c.slot_count-s.ensures c.is_up_to.ensures c.loop-table-test.true
 
 pub returns-then-not-is_up_to : goal.returns-then-not-is_up_to
 returns-then-not-is_up_to c =
@@ -44,17 +31,11 @@ returns-then-not-enter c =
     (is_slot _ _ _ _ c.slot_count-s.ensures c.is_up_to.ensures c.loop-table-test.true)
     (sym c.enter.ensures.value ∙ c.if-not-enter.true)
 
-pub word-requires-in-loop-table : goal.word-requires-in-loop-table
-word-requires-in-loop-table c = is_slot _ _ _ _ c.slot_count-s.ensures c.is_up_to.ensures c.loop-table-test.true
-
 pub returns-then-end-at : goal.returns-then-end-at
 returns-then-end-at c =
     bad-size c.loop-table.invariant c.wrapping_add_u64-end.result (omega (arith, c.type_inv.w 0))
     (is_slot _ _ _ _ c.slot_count-s.ensures c.is_up_to.ensures c.loop-table-test.true)
     (rw (← c.word-in-loop-table.ensures) c.wrapping_add_u64-end.ensures.value) c.if-end-at.true
-
-pub live_bytes-requires : goal.live_bytes-requires
-live_bytes-requires c = is_slot _ _ _ _ c.slot_count-s.ensures c.is_up_to.ensures c.loop-table-test.true
 
 pub returns-in_err-live : goal.returns-in_err-live
 returns-in_err-live c =
@@ -75,12 +56,6 @@ passed c = record {
   adds = sym c.live_bytes.ensures ∙ c.in_ok-live.was;
 }
 
-pub word-requires-in-loop-table-2 : goal.word-requires-in-loop-table-2
-word-requires-in-loop-table-2 c = is_slot _ _ _ _ c.slot_count-s.ensures c.is_up_to.ensures c.loop-table-test.true
-
-pub word-requires-in-loop-table-3 : goal.word-requires-in-loop-table-3
-word-requires-in-loop-table-3 c = is_slot _ _ _ _ c.slot_count-s.ensures c.is_up_to.ensures c.loop-table-test.true
-
 pub overflow_add-at : goal.overflow_add-at
 overflow_add-at c =
     let all = passed (goal.at.overflow_add-at c).In_ok-live in
@@ -90,9 +65,6 @@ pub loop-table-preserved : goal.loop-table-preserved
 loop-table-preserved c =
     let all = passed (goal.at.loop-table-preserved c).In_ok-live in
     rw (c.word-in-loop-table-2.ensures, c.word-in-loop-table-3.ensures, c.enter.ensures.after (c.enter.ensures.value ∙ all.new)) (next-turn _ all)
-
-pub end-requires : goal.end-requires
-end-requires c = omega (arith, table_shape _ c.requires.0)
 
 pub returns : goal.returns
 returns c = c.end.ensures ∙ last_turn c.loop-table.invariant _ c.slot_count-s.ensures (sym c.is_up_to.ensures ∙ c.loop-table-test.false)

@@ -1,6 +1,5 @@
 -- `walking::ids::Buckets::on_chain` meets its contract. Assumes nothing.
 use Rattle.std.proofs.Common.{◌≡◌, sym, ◌∙◌, arith}
-use Rattle.table.specs.Layout.{table_shape}
 use Rattle.walking.proofs.Chains.{chain-ends, chain-here, chain-after, ends_on, shorter, link_read}
 use Rattle.walking.proofs.ids.Buckets.on_chain.Goals as goal
 
@@ -8,9 +7,6 @@ pub returns-then-word-id : goal.returns-then-word-id
 returns-then-word-id c =
     sym (chain-here _ _ 512 _ _ (λ (e : 512 ≡ 0). omega arith) c.loop-k-test.true (sym c.word.ensures ∙ c.if-word-id.true))
     ∙ c.loop-k.invariant.2
-
-pub bounds-self-k : goal.bounds-self-k
-bounds-self-k c = omega (arith, c.loop-k.invariant.0, table_shape _ c.args.table.table)
 
 pub loop-k-smaller : goal.loop-k-smaller
 loop-k-smaller c =
