@@ -5,3 +5,4 @@ pub mod PageWays
 pub mod Offsets
 pub mod BetterWays
 pub mod Searching
+pub mod Walking

@@ -4,10 +4,9 @@ ghost use Rattle.sub_allocator.specs.Requests.{request_of};
 ghost use Rattle.search.specs.Best.{best_slot, better_at};
 ghost use Rattle.search.specs.Slots.{some_slot};
 
-use crate::fit;
 use crate::held::Held;
+use crate::{fit, held};
 use sub_allocator::request::WellFormed;
-use table::layout;
 use table::layout::Field;
 use words::sound::SoundTable;
 
@@ -33,11 +32,10 @@ pub fn best(table: SoundTable, request: WellFormed) -> Option<u64>
 {
     let mut best = None;
     let mut spare = u64::MAX - request.request.size;
-    let mut next = layout::first_slot(table.words);
+    let mut next = held::first(table);
     // by rising address, so that of equal chunks the first stays
-    while next != 0 {
-        let chunk = Held { table, slot: next };
-        next = chunk.word(Field::Next);
+    while let Some(chunk) = next {
+        next = chunk.next();
         if is_better(chunk, spare, request) {
             best = Some(chunk.slot);
             spare = chunk.word(Field::Size) - request.request.size;

@@ -29,7 +29,7 @@ fn clears_before(chunk: Held, offset: u64, request: WellFormed) -> bool
     !pages::is_on_same_page(first, size, offset, request.request.granularity)
 }
 
-// The same with the chunk after, by the last requested byte.
+// The same with the chunk after, by the last requested byte. One function for both would be handed both ranges and kinds, six numbers.
 fn clears_after(chunk: Held, offset: u64, request: WellFormed) -> bool
     requires { offset + request.request.size < 2 ^ 64 }
     ensures { result ≡ may_stand request.request.granularity (asked (request_of request.request) offset) (after_at chunk.entry.table.words.now chunk.entry.slot) }
