@@ -1,7 +1,7 @@
 // Where the words of a table stand: a head of four words, then seven for each slot.
 ghost use Rattle.std.specs.Prelude.{true, ◌≡◌, ◌+◌, ◌-◌, ◌≤◌, ◌<◌};
 ghost use Rattle.std.specs.Prelude.{eqb, length, ◌^◌};
-ghost use Rattle.table.specs.Layout.{at, most_slots, word_count, is_table, slot_count, Slot, block_size, allocated_word, next_id, first_slot, id_at, size_at, first_byte_at, kind_at, label_at, next_at, previous_at};
+ghost use Rattle.table.specs.Layout.{at, most_slots, word_count, is_table, slot_count, Slot, first_slot, kind_at};
 ghost use Rattle.table.specs.Named.{head_word, field_at, place_of, place_at};
 
 // A table has at most so many slots, and then so many words.
@@ -72,17 +72,12 @@ pub fn word_count(slots: u64) -> usize
 }
 
 // Whether the word count is 4 + 7s, s from 1 to 512.
+#[tactic(auto, unfolding(crate::specs::Layout::is_table, laws::specs::Every::every))]
 pub fn is_table(w: &[u64]) -> bool
     ensures { result ≡ is_table w.now }
 {
-    if w.len() < 11 {
-        return false;
-    }
-    let s = (w.len() - 4) / 7;
-    if 512 < s {
-        return false;
-    }
-    w.len() == 4 + 7 * s
+    let s = w.len().saturating_sub(4) / 7;
+    (1..=512).contains(&s) && w.len() == 4 + 7 * s
 }
 
 pub fn slot_count(w: &[u64]) -> u64
@@ -92,79 +87,10 @@ pub fn slot_count(w: &[u64]) -> u64
     ((w.len() - 4) / 7) as u64
 }
 
-pub fn block_size(w: &[u64]) -> u64
-    requires { is_table w.now ≡ true }
-    ensures { result ≡ block_size w.now }
-{
-    w[0]
-}
-
-pub fn allocated(w: &[u64]) -> u64
-    requires { is_table w.now ≡ true }
-    ensures { result ≡ allocated_word w.now }
-{
-    w[1]
-}
-
-pub fn next_id(w: &[u64]) -> u64
-    requires { is_table w.now ≡ true }
-    ensures { result ≡ next_id w.now }
-{
-    w[2]
-}
-
+// The slot of the first chunk, for readers that know of a table: `head` would ask each of them for its length.
 pub fn first_slot(w: &[u64]) -> u64
     requires { is_table w.now ≡ true }
     ensures { result ≡ first_slot w.now }
 {
     w[3]
-}
-
-pub fn id(w: &[u64], k: u64) -> u64
-    requires { Slot w.now k }
-    ensures { result ≡ id_at w.now k }
-{
-    w[4 + 7 * (k as usize - 1)]
-}
-
-pub fn size(w: &[u64], k: u64) -> u64
-    requires { Slot w.now k }
-    ensures { result ≡ size_at w.now k }
-{
-    w[4 + 7 * (k as usize - 1) + 1]
-}
-
-pub fn first_byte(w: &[u64], k: u64) -> u64
-    requires { Slot w.now k }
-    ensures { result ≡ first_byte_at w.now k }
-{
-    w[4 + 7 * (k as usize - 1) + 2]
-}
-
-pub fn kind(w: &[u64], k: u64) -> u64
-    requires { Slot w.now k }
-    ensures { result ≡ kind_at w.now k }
-{
-    w[4 + 7 * (k as usize - 1) + 3]
-}
-
-pub fn label(w: &[u64], k: u64) -> u64
-    requires { Slot w.now k }
-    ensures { result ≡ label_at w.now k }
-{
-    w[4 + 7 * (k as usize - 1) + 4]
-}
-
-pub fn next(w: &[u64], k: u64) -> u64
-    requires { Slot w.now k }
-    ensures { result ≡ next_at w.now k }
-{
-    w[4 + 7 * (k as usize - 1) + 5]
-}
-
-pub fn previous(w: &[u64], k: u64) -> u64
-    requires { Slot w.now k }
-    ensures { result ≡ previous_at w.now k }
-{
-    w[4 + 7 * (k as usize - 1) + 6]
 }

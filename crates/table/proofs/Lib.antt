@@ -1,2 +1,0 @@
--- The laws that the proofs of `table` share. Assumes nothing.
-pub mod Ways
