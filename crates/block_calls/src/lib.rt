@@ -6,22 +6,23 @@ ghost use Rattle.opening.specs.Creation.{new_on};
 ghost use Rattle.giving_back.specs.GivingBack.{free_on, rename_on};
 ghost use Rattle.placing.specs.Placing.{allocate_on};
 ghost use Rattle.opening.specs.Questions.{allocated_on, is_empty_on};
-ghost use Rattle.outs.specs.Outs.{words_out, request, placed_out};
-ghost use Rattle.outs.specs.Outs.{value_out, flag_out};
+ghost use Rattle.outs.specs.Outs.{words_out, request, placed_out, value_out, flag_out};
 
 use giving_back;
 use opening::{creation, questions};
+use outs;
 use placing;
-use sub_allocator::answers::{IsEmpty, Placement, Total};
+use refusals;
 use sub_allocator::request::Request;
 
 #[unsafe(no_mangle)]
 pub extern "C" fn lunkaseyo_block_new(words: &mut [u64], size: u64) -> u64
     ensures { (result, words.new) ≡ words_out (new_on words.old size) }
 {
-    creation::new(words, size).number()
+    refusals::number(&creation::new(words, size))
 }
 
+// The C interface passes a request as five numbers.
 #[unsafe(no_mangle)]
 pub extern "C" fn lunkaseyo_block_allocate(
     words: &mut [u64],
@@ -42,57 +43,33 @@ pub extern "C" fn lunkaseyo_block_allocate(
         granularity,
         label,
     };
-    let answer = placing::allocate(words, request);
-    let Placement::Placed {
-        offset: begin,
-        id: given,
-    } = answer
-    else {
-        *offset = 0;
-        *id = 0;
-        return answer.number();
-    };
-    *offset = begin;
-    *id = given;
-    0
+    outs::give_placement(placing::allocate(words, request), offset, id)
 }
 
 #[unsafe(no_mangle)]
 pub extern "C" fn lunkaseyo_block_free(words: &mut [u64], id: u64) -> u64
     ensures { (result, words.new) ≡ words_out (free_on words.old id) }
 {
-    giving_back::free(words, id).number()
+    refusals::number(&giving_back::free(words, id))
 }
 
 #[unsafe(no_mangle)]
 pub extern "C" fn lunkaseyo_block_rename_allocation(words: &mut [u64], id: u64, label: u64) -> u64
     ensures { (result, words.new) ≡ words_out (rename_on words.old id label) }
 {
-    giving_back::rename_allocation(words, id, label).number()
+    refusals::number(&giving_back::rename_allocation(words, id, label))
 }
 
 #[unsafe(no_mangle)]
 pub extern "C" fn lunkaseyo_block_allocated(words: &[u64], allocated: &mut u64) -> u64
     ensures { (result, allocated.new) ≡ value_out (allocated_on words.now) }
 {
-    let answer = questions::allocated(words);
-    let Total::Bytes(bytes) = answer else {
-        *allocated = 0;
-        return answer.number();
-    };
-    *allocated = bytes;
-    0
+    outs::give_value(questions::allocated(words), allocated)
 }
 
 #[unsafe(no_mangle)]
 pub extern "C" fn lunkaseyo_block_is_empty(words: &[u64], is_empty: &mut u64) -> u64
     ensures { (result, is_empty.new) ≡ flag_out (is_empty_on words.now) }
 {
-    let answer = questions::is_empty(words);
-    let IsEmpty::Answer(empty) = answer else {
-        *is_empty = 0;
-        return answer.number();
-    };
-    *is_empty = empty as u64;
-    0
+    outs::give_flag(questions::is_empty(words), is_empty)
 }
