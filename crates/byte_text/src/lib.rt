@@ -53,7 +53,7 @@ fn round(n: u64, d: u64) -> u64
     whole + whole % 2
 }
 
-// Stores the two places behind the point, between "." and " ".
+// Stores the two places behind the point, between "." and " ". By hand: a formatter's `{:02}` needs a writer, and these are four stores.
 fn put_places(buf: &mut [u8], at: usize, h: u64) -> usize
     requires { at + 4 ≤ length buf.old }
     ensures { (result ≡ at + 4) × (buf.new ≡ splice buf.old at (places h)) }
