@@ -1,140 +1,78 @@
-// Whether the calls of a dedicated block answer as a recorded line says. Its record is in the first three words of the store.
-use dedicated::record::{DedicatedBlock, New, Report};
+// Whether the calls of a dedicated block answer as a recorded line says. Its record is in three words of the store.
+use dedicated::record::{AllocationReport, DedicatedBlock};
 use dedicated::{creation, questions};
-use dedicated_lent::kept;
-use recorded_blocks::{Outcome, placement_agrees};
-use sub_allocator::answers::Total;
+use recorded_blocks::calls;
+use recorded_blocks::calls::SubAllocator;
+use recorded_blocks::Store;
+use refusals::Refusal;
+use sub_allocator::answers::Placement;
 use sub_allocator::request::Request;
 
-// A store that is too short has no record: this one is not sound.
-fn record_of(store: &[u64]) -> DedicatedBlock {
-    if store.len() < 3 {
-        return DedicatedBlock {
-            size: 0,
-            allocated: 0,
-            label: 0,
-        };
-    }
-    DedicatedBlock {
-        size: store[0],
-        allocated: store[1],
-        label: store[2],
-    }
-}
+// A dedicated block, which is lent to each call.
+#[derive(Clone, Copy)]
+struct Dedicated(DedicatedBlock);
 
-fn keep(store: &mut [u64], block: DedicatedBlock) {
-    if store.len() < 3 {
-        return;
+impl SubAllocator for Dedicated {
+    fn allocate(&mut self, request: Request) -> Result<Placement, Refusal> {
+        dedicated_lent::allocate(&mut self.0, request)
     }
-    store[0] = block.size;
-    store[1] = block.allocated;
-    store[2] = block.label;
-}
 
-// Whether these bytes are allocated after a call, under this label.
-fn left_agrees(block: DedicatedBlock, allocated: u64, label: u64) -> bool {
-    let total = questions::allocated(block);
-    let Total::Bytes(bytes) = total else {
-        return false;
-    };
-    bytes == allocated && block.label == label
-}
+    fn free(&mut self, id: u64) -> Result<(), Refusal> {
+        dedicated_lent::free(&mut self.0, id)
+    }
 
-// A refusal leaves the record that is there.
-fn created(store: &mut [u64], size: u64, number: u64, lent: usize) -> Outcome {
-    let answer = creation::new(size);
-    let New::Block(block) = answer else {
-        return Outcome {
-            agrees: answer.number() == number,
-            lent,
-        };
-    };
-    keep(store, block);
-    Outcome {
-        agrees: number == 0 && left_agrees(block, 0, 0),
-        lent: 3,
+    fn rename_allocation(&mut self, id: u64, label: u64) -> Result<(), Refusal> {
+        dedicated_lent::rename_allocation(&mut self.0, id, label)
+    }
+
+    fn left(&self) -> Option<(u64, u64)> {
+        let allocated = questions::allocated(self.0).ok()?;
+        Some((allocated, self.0.label))
     }
 }
 
-fn allocate_agrees(store: &mut [u64], fields: [u64; 11]) -> bool {
-    let request = Request {
-        size: fields[1],
-        alignment: fields[2],
-        kind: fields[3],
-        granularity: fields[4],
-        label: fields[5],
-    };
-    let done = kept::allocate(record_of(store), request);
-    keep(store, done.block);
-    let answer = done.answer;
-    if !placement_agrees(answer, fields[6], fields[7], fields[8]) {
-        return false;
+// A refusal leaves the block that is there.
+fn creation_agrees(store: &mut Store, size: u64, number: u64) -> bool {
+    match creation::new(size) {
+        Ok(block) => {
+            store.put(block.into());
+            number == 0 && Dedicated(block).left() == Some((0, 0))
+        }
+        Err(refusal) => u64::from(refusal) == number,
     }
-    left_agrees(done.block, fields[9], fields[10])
 }
 
-fn free_agrees(store: &mut [u64], fields: [u64; 11]) -> bool {
-    let done = kept::free(record_of(store), fields[1]);
-    keep(store, done.block);
-    let answer = done.answer;
-    if answer.number() != fields[2] {
-        return false;
-    }
-    left_agrees(done.block, fields[3], fields[4])
-}
-
-fn rename_agrees(store: &mut [u64], fields: [u64; 11]) -> bool {
-    let done = kept::rename_allocation(record_of(store), fields[1], fields[2]);
-    keep(store, done.block);
-    let answer = done.answer;
-    if answer.number() != fields[3] {
-        return false;
-    }
-    left_agrees(done.block, fields[4], fields[5])
-}
-
-fn report_agrees(store: &[u64], fields: [u64; 11]) -> bool {
-    let report = questions::report_allocations(record_of(store));
-    match report {
-        Report::Entry {
-            first_byte,
+// The block at hand, if that is a dedicated one: a table has more than three words.
+fn block_in(store: &Store) -> Option<DedicatedBlock> {
+    match *store.lent() {
+        [size, allocated, label] => Some(DedicatedBlock {
             size,
+            allocated,
             label,
-        } => first_byte == fields[1] && size == fields[2] && label == fields[3],
-        Report::Refused(_) => false,
+        }),
+        _ => None,
     }
 }
 
-// The first of the n fields says which call.
-fn call_agrees(store: &mut [u64], fields: [u64; 11], n: usize) -> bool {
-    let function = fields[0];
-    if function == 11 && n == 11 {
-        return allocate_agrees(store, fields);
-    }
-    if function == 12 && n == 5 {
-        return free_agrees(store, fields);
-    }
-    if function == 13 && n == 6 {
-        return rename_agrees(store, fields);
-    }
-    if function == 14 && n == 4 {
-        return report_agrees(store, fields);
-    }
-    false
+fn call_agrees(store: &mut Store, fields: &[u64]) -> bool {
+    let Some(block) = block_in(store) else {
+        return false;
+    };
+    let mut lent = Dedicated(block);
+    let agrees = calls::call_agrees(&mut lent, fields);
+    store.put(lent.0.into());
+    agrees
 }
 
-pub fn replayed(store: &mut [u64], fields: [u64; 11], n: usize, lent: usize) -> Outcome {
-    if fields[0] == 10 && n == 3 {
-        return created(store, fields[1], fields[2], lent);
-    }
-    if lent != 3 {
-        return Outcome {
-            agrees: false,
-            lent,
-        };
-    }
-    Outcome {
-        agrees: call_agrees(store, fields, n),
-        lent,
+fn report_agrees(store: &Store, told: AllocationReport) -> bool {
+    block_in(store).is_some_and(|block| questions::report_allocations(block) == Ok(told))
+}
+
+pub fn agrees(store: &mut Store, fields: &[u64]) -> bool {
+    match *fields {
+        [10, size, number] => creation_agrees(store, size, number),
+        [11..=13, ..] => call_agrees(store, fields),
+        [14, first_byte, size, label] => report_agrees(store, AllocationReport { first_byte, size, label }),
+        _ => false,
     }
 }

@@ -1,87 +1,59 @@
 // Whether the leak walk answers as a recorded line says, on the words of the table at hand.
 use leak_walk;
 use leaks::leak::Leak;
-use recorded_blocks::Outcome;
+use refusals::Refusal;
 
 // At the end the five values are 0.
-fn leak_agrees(answer: Leak, fields: [u64; 11]) -> bool {
-    match answer {
-        Leak::Live {
-            id,
-            first_byte,
-            size,
-            kind,
-            label,
-        } => {
-            id == fields[2]
-                && first_byte == fields[3]
-                && size == fields[4]
-                && kind == fields[5]
-                && label == fields[6]
-        }
-        Leak::End => fields[2] == 0
-            && fields[3] == 0
-            && fields[4] == 0
-            && fields[5] == 0
-            && fields[6] == 0,
-        Leak::Refused(_) => false,
-    }
+const END: Leak = Leak {
+    id: 0,
+    first_byte: 0,
+    size: 0,
+    kind: 0,
+    label: 0,
+};
+
+fn leak_agrees(answer: Result<Option<Leak>, Refusal>, told: Leak) -> bool {
+    answer.is_ok_and(|leak| leak.unwrap_or(END) == told)
 }
 
 // The first step of a walk that is begun anew, whose start finds no fault.
-fn begin_agrees(words: &[u64], fields: [u64; 11]) -> bool {
+fn begin_agrees(words: &[u64], told: Leak, after: u64) -> bool {
     let begun = leak_walk::begin(words);
-    let answer = begun.leak;
-    if begun.fault != 0 || begun.place != fields[7] {
-        return false;
-    }
-    leak_agrees(answer, fields)
+    begun.fault.is_none() && begun.place == after && leak_agrees(begun.leak, told)
 }
 
-fn step_agrees(words: &[u64], fields: [u64; 11]) -> bool {
-    let done = leak_walk::step_from(words, fields[1]);
-    let answer = done.leak;
-    if done.place != fields[7] {
-        return false;
-    }
-    leak_agrees(answer, fields)
+fn step_agrees(words: &[u64], from: u64, told: Leak, after: u64) -> bool {
+    let mut place = from;
+    let answer = leak_walk::step_from(words, &mut place);
+    place == after && leak_agrees(answer, told)
 }
 
 // A walk that is refused at its start is refused at its first step too, with the same number.
 fn refused_agrees(words: &[u64], number: u64) -> bool {
     let begun = leak_walk::begin(words);
-    let answer = begun.leak;
-    if begun.fault != number || number == 0 {
-        return false;
-    }
-    answer.number() == number && begun.place == 0
+    begun.fault.is_some_and(|refusal| u64::from(refusal) == number)
+        && refusals::number(&begun.leak) == number
+        && begun.place == 0
 }
 
 // The place before the step, what is handed out, and the place after it; from 0 on a walk is begun.
-fn call_agrees(words: &[u64], fields: [u64; 11], n: usize) -> bool {
-    let function = fields[0];
-    if function == 15 && n == 8 && fields[1] == 0 {
-        return begin_agrees(words, fields);
-    }
-    if function == 15 && n == 8 {
-        return step_agrees(words, fields);
-    }
-    if function == 16 && n == 2 {
-        return refused_agrees(words, fields[1]);
-    }
-    false
-}
-
-// No line changes how many words there are.
-pub fn replayed(store: &[u64], fields: [u64; 11], n: usize, lent: usize) -> Outcome {
-    if store.len() < lent {
-        return Outcome {
-            agrees: false,
-            lent,
-        };
-    }
-    Outcome {
-        agrees: call_agrees(&store[..lent], fields, n),
-        lent,
+pub fn agrees(words: &[u64], fields: &[u64]) -> bool {
+    match *fields {
+        [15, place, id, first_byte, size, kind, label, after] => {
+            let told = Leak {
+                id,
+                first_byte,
+                size,
+                kind,
+                label,
+            };
+            if place == 0 {
+                begin_agrees(words, told, after)
+            } else {
+                step_agrees(words, place, told, after)
+            }
+        }
+        [16, number] => refused_agrees(words, number),
+        _ => false,
     }
 }
