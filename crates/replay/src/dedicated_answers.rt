@@ -1,9 +1,8 @@
 // Whether the calls of a dedicated block answer as a recorded line says. Its record is in three words of the store.
 use dedicated::record::{AllocationReport, DedicatedBlock};
 use dedicated::{creation, questions};
-use recorded_blocks::calls;
 use recorded_blocks::calls::SubAllocator;
-use recorded_blocks::Store;
+use recorded_blocks::{Store, calls};
 use refusals::Refusal;
 use sub_allocator::answers::Placement;
 use sub_allocator::request::Request;
@@ -72,7 +71,14 @@ pub fn agrees(store: &mut Store, fields: &[u64]) -> bool {
     match *fields {
         [10, size, number] => creation_agrees(store, size, number),
         [11..=13, ..] => call_agrees(store, fields),
-        [14, first_byte, size, label] => report_agrees(store, AllocationReport { first_byte, size, label }),
+        [14, first_byte, size, label] => report_agrees(
+            store,
+            AllocationReport {
+                first_byte,
+                size,
+                label,
+            },
+        ),
         _ => false,
     }
 }

@@ -31,7 +31,9 @@ fn step_agrees(words: &[u64], from: u64, told: Leak, after: u64) -> bool {
 // A walk that is refused at its start is refused at its first step too, with the same number.
 fn refused_agrees(words: &[u64], number: u64) -> bool {
     let begun = leak_walk::begin(words);
-    begun.fault.is_some_and(|refusal| u64::from(refusal) == number)
+    begun
+        .fault
+        .is_some_and(|refusal| u64::from(refusal) == number)
         && refusals::number(&begun.leak) == number
         && begun.place == 0
 }
