@@ -1,5 +1,5 @@
 -- How a text is read on, byte by byte. Assumes nothing.
-use Rattle.std.proofs.Common.{ℕ, suc, ◌+◌, ◌≤◌, ◌<◌, arith, true, false, List, [], ◌∷◌, ◌≡◌, refl, sym, ap, ◌∙◌, length, drop, get_or, drop_of_length-le, drop-cons}
+use Rattle.std.proofs.Common.{ℕ, suc, ◌+◌, ◌≤◌, ◌<◌, arith, true, false, List, [], ◌∷◌, ◌≡◌, refl, sym, ap, ◌∙◌, length, max, drop, get_or, drop_of_length-le, drop-cons}
 use Rattle.table.specs.Layout.{most_words}
 use Rattle.bench_lines.proofs.FedLaws.{next_fits}
 use Rattle.bench_lines.specs.Fits.{fitting}
@@ -50,6 +50,7 @@ module _ (text : List ℕ) (from : ℕ) (s e : Bench) (store out : List ℕ) (q 
 
 -- what the loop keeps: what is left to do comes to what was to do
 pub record Going (text : List ℕ) (from : ℕ) (first : Kept) (at : ℕ) (s : Bench) (store out : List ℕ) : Type 0 where
+  pub reached : at ≤ max from (length text)
   pub stores : length store ≡ length first.1
   pub outs : length out ≡ length first.2
   pub long : most_words ≤ length store
@@ -60,7 +61,7 @@ pub record Going (text : List ℕ) (from : ℕ) (first : Kept) (at : ℕ) (s : B
 pub begins : (text : List ℕ) (from : ℕ) (s : Bench) (store out : List ℕ) → fits s store ≡ true → s.used ≤ length out → Going text from (s, store, out) from s store out
 begins text from s store out e u =
     let f = fitting s store e in
-    record { stores = refl; outs = refl; long = f.0; lent = f.1; used = u; same = refl }
+    record { reached = omega arith; stores = refl; outs = refl; long = f.0; lent = f.1; used = u; same = refl }
 
 pub turn : (text : List ℕ) (from : ℕ) (first : Kept) (at : ℕ) (s : Bench) (store out : List ℕ) → Going text from first at s store out
     → at < length text → has_room s out ≡ true
@@ -72,6 +73,7 @@ turn text from first at s store out g h e s' store' out' q l m =
     let used : s'.used ≤ length out' =
     rw (ap (λ (k : Kept). k.0.used) q, ap (λ (k : Kept). k.2) q) (next_fits s (get_or text at 0) store out g.used) in
     record {
+      reached = omega arith;
       stores = l ∙ g.stores;
       outs = m ∙ g.outs;
       long = omega (arith, g.long);

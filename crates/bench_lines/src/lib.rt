@@ -7,12 +7,13 @@ ghost use Rattle.bench_lines.specs.Feeding.{begin, emptied, is_begun, fits, has_
 use answer_lines;
 use answer_lines::LONGEST;
 use bench_step;
+use bench_step::Stepped;
 use call_lines::line::Line;
 use table::layout;
 
 // What is kept between two bytes, but for the store: the line so far, how many words of the store the block at hand has, and
 // how many bytes of the buffer are written.
-#[derive(Clone, Copy)]
+#[derive(Clone, Copy, Debug, Default, PartialEq, Eq)]
 pub struct Bench {
     pub line: Line,
     pub lent: usize,
@@ -20,7 +21,7 @@ pub struct Bench {
 }
 
 // The same, and the place of the first byte of the text that was not read.
-#[derive(Drop)]
+#[derive(Clone, Copy, Debug, PartialEq, Eq)]
 pub struct Fed {
     pub bench: Bench,
     pub read: usize,
@@ -31,11 +32,7 @@ impl Bench {
     pub fn new() -> Bench
         ensures { result ≡ begin }
     {
-        Bench {
-            line: Line::new(),
-            lent: 0,
-            used: 0,
-        }
+        Bench::default()
     }
 
     // Whether the last line has a byte and no line feed yet.
@@ -49,9 +46,7 @@ impl Bench {
     fn emptied(self) -> Bench
         ensures { result ≡ emptied self }
     {
-        let mut bench = self;
-        bench.used = 0;
-        bench
+        Bench { used: 0, ..self }
     }
 
     // Whether the store is long enough for every table, and for the one at hand.
@@ -59,10 +54,7 @@ impl Bench {
     fn fits(self, store: &[u64]) -> bool
         ensures { result ≡ fits self store.now }
     {
-        if store.len() < layout::MOST_WORDS {
-            return false;
-        }
-        self.lent <= store.len()
+        layout::MOST_WORDS <= store.len() && self.lent <= store.len()
     }
 
     // Whether the buffer has room for one more answer.
@@ -70,10 +62,7 @@ impl Bench {
     fn has_room(self, out: &[u8]) -> bool
         ensures { result ≡ has_room self out.now }
     {
-        if out.len() < LONGEST {
-            return false;
-        }
-        self.used <= out.len() - LONGEST
+        LONGEST <= out.len() && self.used <= out.len() - LONGEST
     }
 
     // The line ends: it is answered, and the next one begins.
@@ -81,13 +70,11 @@ impl Bench {
         requires { Ready self store.old out.old }
         ensures { (result, store.new, out.new) ≡ ended_on self store.old out.old }
     {
-        let asked = self.line.asked();
-        let stepped = bench_step::step(store, self.lent, asked);
-        let answer = stepped.answer;
+        let Stepped { answer, lent } = bench_step::step(store, self.lent, self.line.asked());
         let used = answer_lines::put_answer(out, self.used, answer);
         Bench {
             line: Line::new(),
-            lent: stepped.lent,
+            lent,
             used,
         }
     }
@@ -101,9 +88,10 @@ impl Bench {
         if byte == b'\n' {
             return self.ended(store, out);
         }
-        let mut bench = self;
-        bench.line = self.line.fed(byte);
-        bench
+        Bench {
+            line: self.line.fed(byte),
+            ..self
+        }
     }
 }
 
@@ -113,16 +101,17 @@ pub fn feed(text: &[u8], from: usize, begun: Bench, store: &mut [u64], out: &mut
     ensures used_in_bounds { result.bench.used ≤ length out.new }
 {
     let mut bench = begun.emptied();
-    let mut read = from;
     if !bench.fits(store) {
-        return Fed { bench, read };
+        return Fed { bench, read: from };
     }
-    while read < text.len() {
+    for read in from..text.len() {
         if !bench.has_room(out) {
             return Fed { bench, read };
         }
         bench = bench.taken(text[read], store, out);
-        read += 1;
     }
-    Fed { bench, read }
+    Fed {
+        bench,
+        read: from.max(text.len()),
+    }
 }

@@ -1,12 +1,12 @@
 // The step of the text program: what a line asks for is done on the block at hand, in the first words of a store.
 #![tactic(auto)]
 
-ghost use Rattle.std.specs.Prelude.{◌≡◌, ◌≤◌, length, take, Some};
+ghost use Rattle.std.specs.Prelude.{◌≡◌, ◌≤◌, length, take, cond, Some};
 ghost use Rattle.model.specs.Runs.Call.{allocate, free as freeCall};
 ghost use Rattle.table.specs.Layout.{most_words};
 ghost use Rattle.opening.specs.Look.{table_fault};
 ghost use Rattle.opening.specs.Questions.{allocated_on};
-ghost use Rattle.refusals.specs.Refusals.{fault_of};
+ghost use Rattle.refusals.specs.Refusals.{number_of, fault_of};
 ghost use Rattle.sub_allocator.specs.Requests.{request_of};
 ghost use Rattle.block.specs.Runs.{told};
 ghost use Rattle.call_lines.specs.Asked.{asked_of};
@@ -32,13 +32,21 @@ pub struct Stepped {
     pub lent: usize,
 }
 
+// Whether the words are no sound table.
+#[tactic(auto, unfolding(crate::specs::Step::fault_told))]
+fn is_unfit(refusal: Refusal) -> bool
+    ensures { cond result (number_of refusal) 0 ≡ fault_told (number_of refusal) }
+{
+    matches!(refusal, Refusal::WordCount | Refusal::Unsound)
+}
+
 // The bytes allocated after a call that answered so. It has looked at the table, so that is not done again.
 fn total_after<T>(words: &[u64], answer: &Result<T, Refusal>) -> u64
     requires { table_fault words.now ≡ fault_told (fault_of answer.now) }
     ensures { result ≡ told (allocated_on words.now) }
 {
     match answer {
-        Err(Refusal::WordCount | Refusal::Unsound) => 0,
+        Err(refusal) if is_unfit(*refusal) => 0,
         _ => layout::head(words, HeadField::Allocated),
     }
 }
@@ -105,13 +113,16 @@ pub fn step(store: &mut [u64], lent: usize, call: Option<Call>) -> Stepped
     requires { (most_words ≤ length store.old) × (lent ≤ length store.old) }
     ensures { (answer_of result.answer, result.lent, store.new) ≡ stored store.old (answered (asked_of call) (take lent store.old)) }
 {
+    let Some(call) = call else {
+        return Stepped { answer: None, lent };
+    };
     match call {
-        Some(Call::New { size, slots }) => new_step(store, lent, size, slots),
-        Some(Call::Allocate(request)) if lent > 0 => Stepped {
+        Call::New { size, slots } => new_step(store, lent, size, slots),
+        Call::Allocate(request) if lent > 0 => Stepped {
             answer: Some(allocate_answer(&mut store[..lent], request)),
             lent,
         },
-        Some(Call::Free(id)) if lent > 0 => Stepped {
+        Call::Free(id) if lent > 0 => Stepped {
             answer: Some(free_answer(&mut store[..lent], id)),
             lent,
         },

@@ -1,7 +1,8 @@
 -- `bench_lines::feed` meets its contract. Assumes nothing.
-use Rattle.std.proofs.Common.{sym, ◌∙◌}
+use Rattle.std.proofs.Common.{◌≡◌, arith, sym, ap, ◌∙◌}
 use Rattle.bench_lines.proofs.Bytes.{roomy}
 use Rattle.bench_lines.proofs.Runs.{begins, turn, room-ends, text-ends, none_used, unfit, read-on}
+use Rattle.bench_lines.specs.Feeding.{stopped}
 use Rattle.bench_lines.proofs.feed.Goals as goal
 
 pub returns-then-not-fits-clause-out_after : goal.returns-then-not-fits-clause-out_after
@@ -30,5 +31,7 @@ loop-read-preserved c =
 
 pub returns-clause-out_after : goal.returns-clause-out_after
 returns-clause-out_after c =
+    let e : c.loop-read.read ≡ c.max.result = omega (arith, c.max.ensures, c.loop-read.invariant.reached) in
     read-on _ _ _ _ _ _ c.emptied-bench.ensures (sym c.fits.ensures ∙ c.if-not-fits.false) _
-    (text-ends _ _ (_, _, _) c.loop-read-test.false ∙ c.loop-read.invariant.same)
+    (ap (λ n. stopped n (c.loop-read.bench, c.loop-read.store, c.loop-read.out)) (sym e)
+    ∙ text-ends _ _ (_, _, _) c.loop-read-test.false ∙ c.loop-read.invariant.same)

@@ -1,5 +1,8 @@
 -- `bench_step::new_step` meets its contract. Assumes nothing.
-use Rattle.std.proofs.Common.{sym, ◌∙◌, length-take-le}
+use Rattle.std.proofs.Common.{refl, sym, ◌∙◌, length-take-le}
+use Rattle.laws.specs.Reply.{accepted, refused}
+use Rattle.refusals.specs.Refusals.{number_of}
+use Rattle.refusals.proofs.Refusals.{number-positive}
 use Rattle.bench_step.proofs.Kept.{slots_most}
 use Rattle.bench_step.proofs.Steps.{slot_words, no_slots, new-refused, new-made}
 use Rattle.bench_step.proofs.new_step.Goals as goal
@@ -17,16 +20,16 @@ pub slice_bounds-new-end-2 : goal.slice_bounds-new-end-2
 slice_bounds-new-end-2 c =
     sym (length-take-le _ _ (slot_words _ _ _ c.word_count-end.ensures (sym c.is_up_to.ensures ∙ c.if-not-is_up_to.false) c.requires.0))
 
-pub returns-then-number-ne0 : goal.returns-then-number-ne0
-returns-then-number-ne0 c =
-    rw c.number-number.ensures
-    (new-refused _ c.args.lent _ _ _ c.word_count-end.ensures
-    (slot_words _ _ _ c.word_count-end.ensures (sym c.is_up_to.ensures ∙ c.if-not-is_up_to.false) c.requires.0)
-    (sym c.is_up_to.ensures ∙ c.if-not-is_up_to.false) _ _ c.new.ensures (λ e. c.if-number-ne0.true (c.number-number.ensures ∙ e)))
-
-pub returns : goal.returns
-returns c =
-    rw c.number-number.ensures
+pub returns-in-Ok : goal.returns-in-Ok
+returns-in-Ok c =
+    rw (c.default.ensures.0, c.default.ensures.1.0, c.default.ensures.1.1.0, c.default.ensures.1.1.1)
     (new-made _ c.args.lent _ _ _ c.word_count-end.ensures
     (slot_words _ _ _ c.word_count-end.ensures (sym c.is_up_to.ensures ∙ c.if-not-is_up_to.false) c.requires.0)
-    (sym c.is_up_to.ensures ∙ c.if-not-is_up_to.false) _ _ c.new.ensures (sym c.number-number.ensures ∙ c.if-number-ne0.false))
+    (sym c.is_up_to.ensures ∙ c.if-not-is_up_to.false) (accepted tt) _ c.in-Ok.ensures refl)
+
+pub returns-in-Err : goal.returns-in-Err
+returns-in-Err c =
+    rw (c.from.ensures, c.default-in-Err.ensures.1.0, c.default-in-Err.ensures.1.1.0, c.default-in-Err.ensures.1.1.1)
+    (new-refused _ c.args.lent _ _ _ c.word_count-end.ensures
+    (slot_words _ _ _ c.word_count-end.ensures (sym c.is_up_to.ensures ∙ c.if-not-is_up_to.false) c.requires.0)
+    (sym c.is_up_to.ensures ∙ c.if-not-is_up_to.false) (refused (number_of c.in-Err.refusal)) _ c.in-Err.ensures (number-positive c.in-Err.refusal))

@@ -1,10 +1,7 @@
 -- `blockbench::move_some` meets its contract. Assumes nothing.
 use Rattle.std.proofs.Common.{arith}
-use Rattle.blockbench.proofs.Moves.{written, unwritten}
+use Rattle.blockbench.proofs.Moves.{written}
 use Rattle.blockbench.proofs.move_some.Goals as goal
-
-pub returns-then-is_err : goal.returns-then-is_err
-returns-then-is_err c = unwritten _ _ _ _ _ c.requires (omega arith) _ _ _ c.feed-fed.ensures.out_after _ c.new.ensures
 
 pub returns : goal.returns
 returns c = written _ _ _ _ _ c.requires (omega arith) _ _ _ c.feed-fed.ensures.out_after
