@@ -17,7 +17,7 @@ between lent used = record { line = reading.fresh; lent = lent; used = used }
 
 -- a text fed in from a place on, in a store and a buffer of so many old words and bytes, open to computing
 fed : String → ℕ → Bench → ℕ → ℕ → FedKept
-unfolding prints feed_on fed_from taken_on ended_on fits has_room splice reading.fed reading.with_digit reading.with_space reading.with_letter reading.is_letter reading.is_asking reading.asked
+unfolding prints feed_on fed_from taken_on ended_on fits has_room splice reading.fed reading.with_digit reading.with_space reading.with_letter reading.is_letter reading.letter_of reading.is_asking reading.asked
 fed text from s store out = feed_on (bytes text) from s (replicate store 9) (replicate out 9)
 
 -- ---- room for answers
