@@ -5,5 +5,5 @@ use Rattle.bench_lines.proofs.Bench.ended.Goals as goal
 
 pub returns : goal.returns
 returns c =
-    line-ended _ _ _ _ c.asked-asked.ensures (answer_of c.step-stepped.result.answer) _ _ _ _ _ c.new.ensures c.step-stepped.ensures
+    line-ended _ _ _ _ c.asked.ensures (answer_of c.step-answer.result.answer) _ _ _ _ _ c.new.ensures c.step-answer.ensures
     c.put_answer-used.ensures
