@@ -3,5 +3,5 @@ use Rattle.std.proofs.Common.{refl}
 use Rattle.blockbench.proofs.Moves.{begin-fits}
 use Rattle.blockbench.proofs.move_input.Goals as goal
 
-pub loop-turns-init : goal.loop-turns-init
-loop-turns-init c = (begin-fits _ _ c.new.ensures c.requires, refl)
+pub loop-init : goal.loop-init
+loop-init c = (begin-fits _ _ c.new-bench.ensures c.requires, refl)
