@@ -5,7 +5,7 @@ ghost use Rattle.table.specs.Named.{field_at};
 ghost use Rattle.words.specs.Soundness.{Used};
 
 use table::layout;
-use table::layout::Field;
+use table::layout::{Field, HeadField};
 use words::sound::SoundTable;
 
 #[derive(Clone, Copy)]
@@ -30,7 +30,7 @@ fn in_slot<'a>(table: SoundTable<'a>, slot: u64) -> Option<Held<'a>>
 pub(crate) fn first<'a>(table: SoundTable<'a>) -> Option<Held<'a>>
     ensures { MatchOption result (first_slot table.entry.words.now ≡ 0) (λ h. (h.table ≡ table.entry) × (h.slot ≡ first_slot table.entry.words.now)) }
 {
-    in_slot(table, layout::first_slot(table.words))
+    in_slot(table, layout::head(table.words, HeadField::FirstSlot))
 }
 
 impl<'a> Held<'a> {

@@ -1,7 +1,6 @@
 // Where the words of a table stand: a head of four words, then seven for each slot.
-ghost use Rattle.std.specs.Prelude.{true, ◌≡◌, ◌+◌, ◌-◌, ◌≤◌, ◌<◌};
-ghost use Rattle.std.specs.Prelude.{eqb, length, ◌^◌};
-ghost use Rattle.table.specs.Layout.{at, most_slots, word_count, is_table, slot_count, Slot, first_slot, kind_at};
+ghost use Rattle.std.specs.Prelude.{true, ◌≡◌, ◌+◌, ◌-◌, ◌^◌, ◌≤◌, ◌<◌, eqb, length};
+ghost use Rattle.table.specs.Layout.{at, most_slots, word_count, is_table, slot_count, Slot, kind_at};
 ghost use Rattle.table.specs.Named.{head_word, field_at, place_of, place_at};
 
 // A table has at most so many slots, and then so many words.
@@ -80,17 +79,10 @@ pub fn is_table(w: &[u64]) -> bool
     (1..=512).contains(&s) && w.len() == 4 + 7 * s
 }
 
+// That words are a table's is a clause of the few that ask for it: a struct that knows it would lend them to be read, and one of the few writes.
 pub fn slot_count(w: &[u64]) -> u64
     requires { is_table w.now ≡ true }
     ensures { result ≡ slot_count w.now }
 {
     ((w.len() - 4) / 7) as u64
-}
-
-// The slot of the first chunk, for readers that know of a table: `head` would ask each of them for its length.
-pub fn first_slot(w: &[u64]) -> u64
-    requires { is_table w.now ≡ true }
-    ensures { result ≡ first_slot w.now }
-{
-    w[3]
 }
