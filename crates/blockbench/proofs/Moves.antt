@@ -44,16 +44,15 @@ pub record Going (text : List ℕ) (s : Bench) (store : List ℕ) (m : Fed) (sto
   pub most : m.read ≤ length text
   pub keeps : state_of m.bench store' ≡ after_all (state_of s store) (take m.read text)
   pub long : fits m.bench store' ≡ true
-  pub stays : length store' ≡ length store
 
 pub begins : (text : List ℕ) (s : Bench) (store : List ℕ) → fits s store ≡ true → Going text s store (record { bench = s; read = 0 }) store
 unfolding after_all
-begins text s store f = record { most = omega arith; keeps = refl; long = f; stays = refl }
+begins text s store f = record { most = omega arith; keeps = refl; long = f }
 
 module _ (text : List ℕ) (s : Bench) (store : List ℕ) (m : Fed) (store' : List ℕ) (g : Going text s store m store') where
   pub turn : m.read < length text → (r : Fed) (store'' : List ℕ) → MovesSome text m.read m.bench store' r store''
-      → length store'' ≡ length store' → Going text s store r store''
-  turn h r store'' p l =
+      → Going text s store r store''
+  turn h r store'' p =
       let n : ℕ = r.read - m.read in
       let next : List ℕ = take n (drop m.read text) in
       let sum : m.read + n ≡ r.read = omega (arith, p.moves h) in
@@ -64,7 +63,6 @@ module _ (text : List ℕ) (s : Bench) (store : List ℕ) (m : Fed) (store' : Li
             ∙ sym (after-pieces (state_of s store) (take m.read text) next)
             ∙ ap (after_all (state_of s store)) (sym (take-add m.read n text) ∙ ap (λ (k : ℕ). take k text) sum);
         long = p.long;
-        stays = l ∙ g.stays;
       }
 
   -- The piece is read to its end.

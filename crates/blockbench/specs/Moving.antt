@@ -11,7 +11,7 @@ use Rattle.blockbench.specs.declared.Failure.{Failure}
 use Rattle.blockbench.specs.declared.Failure.TheVariants as failure
 
 -- Of a piece of the text some bytes are read, from a place on: one at least, where there is one. What is kept is what they leave, in a
--- store that is long enough for the next ones. Where the answers cannot be written nothing is kept.
+-- store that is long enough for the next ones. Where the answers cannot be written there is no text any more.
 pub record MovesSome (text : List ℕ) (from : ℕ) (s : Bench) (store : List ℕ) (r : Fed) (after : List ℕ) : Type 0 where
   pub moves : from < length text → from < r.read
   pub most : from ≤ length text → r.read ≤ length text
@@ -23,24 +23,14 @@ pub record MovesAll (text : List ℕ) (s : Bench) (store : List ℕ) (r : Bench)
   pub keeps : state_of r after ≡ after_all (state_of s store) text
   pub long : fits r after ≡ true
 
--- what is kept, whether there is more to do or not
-abbrev pub kept : ControlFlow Bench Bench → Bench
-kept (flow.Continue s) = s
-kept (flow.Break s) = s
-
--- there is more to do, and this is kept
-abbrev pub Brings : (Bench → Type 0) → ControlFlow Bench Bench → Type 0
-Brings P (flow.Continue s) = P s
-Brings P (flow.Break s) = ⊥
-
--- After a failed read nothing is kept. At the end of the input what is kept stays. Any other read brings a piece.
-pub record MovesGot (got : Option (List ℕ)) (s : Bench) (store : List ℕ) (r : Result (ControlFlow Bench Bench) Failure) (after : List ℕ) : Type 0 where
-  pub fails : got ≡ None → (r ≡ Err failure.Input) × (after ≡ store)
-  pub ends : got ≡ Some [] → (r ≡ Ok (flow.Break s)) × (after ≡ store)
-  pub brings : (text : List ℕ) → got ≡ Some text → 1 ≤ length text → IfOk r (Brings (λ k. MovesAll text s store k after))
-  pub long : IfOk r (λ k. fits (kept k) after ≡ true)
+-- After a failed read there is no text any more. At the end of the input what is kept stays. Any other read brings a piece.
+pub record MovesGot (got : Option (List ℕ)) (s : Bench) (store : List ℕ) (r : Result (ControlFlow Unit Unit) Failure) (k : Bench) (after : List ℕ) : Type 0 where
+  pub fails : got ≡ None → (r ≡ Err failure.Input) × (k ≡ s) × (after ≡ store)
+  pub ends : got ≡ Some [] → (r ≡ Ok (flow.Break tt)) × (k ≡ s) × (after ≡ store)
+  pub brings : (text : List ℕ) → got ≡ Some text → 1 ≤ length text
+      → IfOk r (λ f. (f ≡ flow.Continue tt) × MovesAll text s store k after)
 
 -- A last line is ended by a line feed exactly where it has a byte.
-pub record MovesLast (s : Bench) (store : List ℕ) (r : Result Bench Failure) (after : List ℕ) : Type 0 where
-  pub ends : is_begun s ≡ true → IfOk r (λ k. MovesAll (10 ∷ []) s store k after)
-  pub stays : is_begun s ≡ false → (r ≡ Ok s) × (after ≡ store)
+pub record MovesLast (s : Bench) (store : List ℕ) (r : Result Unit Failure) (k : Bench) (after : List ℕ) : Type 0 where
+  pub ends : is_begun s ≡ true → IfOk r (λ _. MovesAll (10 ∷ []) s store k after)
+  pub stays : is_begun s ≡ false → (r ≡ Ok tt) × (k ≡ s) × (after ≡ store)

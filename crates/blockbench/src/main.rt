@@ -1,14 +1,13 @@
 // Reads lines of calls from standard input, and writes a line for each to standard output.
 #![tactic(auto)]
 
-ghost use Rattle.std.specs.Prelude.{true, ◌≡◌, ◌≤◌, length, IfOk};
+ghost use Rattle.std.specs.Prelude.{true, ◌≡◌, IfOk};
 ghost use Rattle.std.specs.Option.{option_copied};
-ghost use Rattle.table.specs.Layout.{most_words};
 ghost use Rattle.bench_lines.specs.Feeding.{fits};
-ghost use Rattle.blockbench.specs.Moving.{MovesSome, MovesAll, MovesGot, MovesLast, kept};
+ghost use Rattle.blockbench.specs.Moving.{MovesSome, MovesAll, MovesGot, MovesLast};
 
 use bench_lines;
-use bench_lines::{Bench, Fed};
+use bench_lines::Bench;
 use std::fmt;
 use std::io::{Print, Read};
 use std::ops::ControlFlow;
@@ -33,90 +32,90 @@ impl fmt::Display for Failure {
     }
 }
 
-// Reads on in a piece, and writes out what that prints.
-fn move_some(rt: &HostRuntime, text: &[u8], from: usize, begun: Bench, store: &mut [u64]) -> Result<Fed, Failure>
-    requires { fits begun store.old ≡ true }
-    ensures { IfOk result (λ r. MovesSome text.now from begun store.old r store.new) }
-{
-    let mut out: [u8; LARGE] = [0; LARGE];
-    let fed = bench_lines::feed(text, from, begun, store, &mut out);
-    if rt.stdout().write_all(&out[..fed.bench.used]).is_err() {
-        return Err(Failure::Answers);
-    }
-    Ok(fed)
+// What is kept from one piece of the text to the next: the store has room for every table, and for the one at hand.
+#[derive(Drop)]
+struct Desk {
+    bench: Bench,
+    store: [u64; layout::MOST_WORDS],
+    ghost fits: { fits bench store ≡ true },
 }
 
-// All of a piece: each turn reads a byte at least, since an empty buffer has room for an answer.
-fn move_all(rt: &HostRuntime, text: &[u8], begun: Bench, store: &mut [u64]) -> Result<Bench, Failure>
-    requires { fits begun store.old ≡ true }
-    ensures { IfOk result (λ r. MovesAll text.now begun store.old r store.new) }
-{
-    let mut moved = Fed {
-        bench: begun,
-        read: 0,
-    };
-    while moved.read < text.len() {
-        moved = move_some(rt, text, moved.read, moved.bench, store)?;
+impl Desk {
+    // Reads on in a piece, and writes out what that prints.
+    fn move_some(&mut self, rt: &HostRuntime, text: &[u8], from: usize) -> Result<usize, Failure>
+        ensures { IfOk result (λ r. MovesSome text.now from self.old.bench self.old.store (record { bench = self.new.bench; read = r }) self.new.store) }
+    {
+        let mut out: [u8; LARGE] = [0; LARGE];
+        let fed = bench_lines::feed(text, from, self.bench, &mut self.store, &mut out);
+        self.bench = fed.bench;
+        if rt.stdout().write_all(&out[..fed.bench.used]).is_err() {
+            return Err(Failure::Answers);
+        }
+        Ok(fed.read)
     }
-    Ok(moved.bench)
-}
 
-// What a read brought, if it did not fail. At the end of the input a line that was begun is kept.
-fn move_got(rt: &HostRuntime, got: Option<&[u8]>, begun: Bench, store: &mut [u64]) -> Result<ControlFlow<Bench, Bench>, Failure>
-    requires { fits begun store.old ≡ true }
-    ensures { MovesGot (option_copied got.entry) begun store.old result store.new }
-{
-    let Some(text) = got else {
-        return Err(Failure::Input);
-    };
-    if text.is_empty() {
-        return Ok(ControlFlow::Break(begun));
+    // All of a piece: each turn reads a byte at least, since an empty buffer has room for an answer.
+    fn move_all(&mut self, rt: &HostRuntime, text: &[u8]) -> Result<(), Failure>
+        ensures { IfOk result (λ _. MovesAll text.now self.old.bench self.old.store self.new.bench self.new.store) }
+    {
+        let mut read = 0;
+        while read < text.len() {
+            read = self.move_some(rt, text, read)?;
+        }
+        Ok(())
     }
-    Ok(ControlFlow::Continue(move_all(rt, text, begun, store)?))
-}
 
-// One read, and what it brings.
-fn move_read(rt: &HostRuntime, begun: Bench, store: &mut [u64]) -> Result<ControlFlow<Bench, Bench>, Failure>
-    requires { fits begun store.old ≡ true }
-    ensures { IfOk result (λ r. fits (kept r) store.new ≡ true) }
-{
-    let mut space: [u8; LARGE] = [0; LARGE];
-    match rt.stdin().read(&mut space) {
-        Ok(length) => move_got(rt, Some(&space[..length]), begun, store),
-        Err(_) => move_got(rt, None, begun, store),
+    // What a read brought, if it did not fail. At the end of the input a line that was begun is kept.
+    fn move_got(&mut self, rt: &HostRuntime, got: Option<&[u8]>) -> Result<ControlFlow<()>, Failure>
+        ensures { MovesGot (option_copied got.entry) self.old.bench self.old.store result self.new.bench self.new.store }
+    {
+        let Some(text) = got else {
+            return Err(Failure::Input);
+        };
+        if text.is_empty() {
+            return Ok(ControlFlow::Break(()));
+        }
+        self.move_all(rt, text)?;
+        Ok(ControlFlow::Continue(()))
     }
-}
 
-// A proved loop has to end, and nothing says that the input does: its range is one that no run uses up.
-fn move_input(rt: &HostRuntime, store: &mut [u64]) -> Result<Bench, Failure>
-    requires { most_words ≤ length store.old }
-    ensures { IfOk result (λ r. fits r store.new ≡ true) }
-{
-    let mut bench = Bench::new();
-    for _ in 0..u64::MAX {
-        match move_read(rt, bench, store)? {
-            ControlFlow::Continue(next) => bench = next,
-            ControlFlow::Break(last) => return Ok(last),
+    // One read, and what it brings.
+    fn move_read(&mut self, rt: &HostRuntime) -> Result<ControlFlow<()>, Failure> {
+        let mut space: [u8; LARGE] = [0; LARGE];
+        match rt.stdin().read(&mut space) {
+            Ok(length) => self.move_got(rt, Some(&space[..length])),
+            Err(_) => self.move_got(rt, None),
         }
     }
-    Ok(bench)
-}
 
-// A last line that has a byte needs no line feed.
-fn move_last(rt: &HostRuntime, begun: Bench, store: &mut [u64]) -> Result<Bench, Failure>
-    requires { fits begun store.old ≡ true }
-    ensures { MovesLast begun store.old result store.new }
-{
-    if begun.is_begun() {
-        return move_all(rt, b"\n", begun, store);
+    // A proved loop has to end, and nothing says that the input does: its range is one that no run uses up.
+    fn move_input(&mut self, rt: &HostRuntime) -> Result<(), Failure> {
+        for _ in 0..u64::MAX {
+            if self.move_read(rt)?.is_break() {
+                break;
+            }
+        }
+        Ok(())
     }
-    Ok(begun)
+
+    // A last line that has a byte needs no line feed.
+    fn move_last(&mut self, rt: &HostRuntime) -> Result<(), Failure>
+        ensures { MovesLast self.old.bench self.old.store result self.new.bench self.new.store }
+    {
+        if self.bench.is_begun() {
+            self.move_all(rt, b"\n")?;
+        }
+        Ok(())
+    }
 }
 
-fn run(rt: &HostRuntime) -> Result<Bench, Failure> {
-    let mut store: [u64; layout::MOST_WORDS] = [0; layout::MOST_WORDS];
-    let bench = move_input(rt, &mut store)?;
-    move_last(rt, bench, &mut store)
+fn run(rt: &HostRuntime) -> Result<(), Failure> {
+    let mut desk = Desk {
+        bench: Bench::new(),
+        store: [0; layout::MOST_WORDS],
+    };
+    desk.move_input(rt)?;
+    desk.move_last(rt)
 }
 
 fn main(rt: HostRuntime) {
