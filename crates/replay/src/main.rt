@@ -10,10 +10,12 @@ use crate::lines::Lines;
 use std::io;
 use std::io::Read;
 
-// No more of the input is read than 4 MiB: a line past that would be missing from the count.
-const MOST_BYTES: u64 = 4194304;
+// The input is read in so many pieces of so many bytes, 4 MiB in all: a line past that would be missing from the count.
+const PIECES: u64 = 64;
 
-// Takes what one read brings: no bytes only where the input ends.
+const PIECE: u64 = 65536;
+
+// Takes what one read brings: no bytes only where the piece or the input ends.
 fn read_on<R: Read>(input: &mut R, lines: &mut Lines) -> io::Result<usize> {
     let mut space: [u8; 65536] = [0; 65536];
     let count = input.read(&mut space)?;
@@ -21,13 +23,20 @@ fn read_on<R: Read>(input: &mut R, lines: &mut Lines) -> io::Result<usize> {
     Ok(count)
 }
 
-fn main(rt: HostRuntime) -> io::Result<()> {
-    let mut input = rt.stdin().take(MOST_BYTES);
-    let mut lines = Lines::new();
+// Takes a piece. A terminal may go on after an end, so that the next piece is asked for all the same.
+fn read_piece<R: Read>(piece: &mut R, lines: &mut Lines) -> io::Result<()> {
     for _ in 0..u64::MAX {
-        if read_on(&mut input, &mut lines)? == 0 {
+        if read_on(piece, lines)? == 0 {
             break;
         }
+    }
+    Ok(())
+}
+
+fn main(rt: HostRuntime) -> io::Result<()> {
+    let mut lines = Lines::new();
+    for _ in 0..PIECES {
+        read_piece(&mut rt.stdin().take(PIECE), &mut lines)?;
     }
     let agree = lines.agree;
     let differ = lines.differ;
