@@ -25,7 +25,7 @@ pub record MovesAll (text : List ℕ) (s : Bench) (store : List ℕ) (r : Bench)
 
 -- After a failed read there is no text any more. At the end of the input what is kept stays. Any other read brings a piece.
 pub record MovesGot (got : Option (List ℕ)) (s : Bench) (store : List ℕ) (r : Result (ControlFlow Unit Unit) Failure) (k : Bench) (after : List ℕ) : Type 0 where
-  pub fails : got ≡ None → (r ≡ Err failure.Input) × (k ≡ s) × (after ≡ store)
+  pub fails : got ≡ None → (r ≡ Err failure.Input) × (after ≡ store)
   pub ends : got ≡ Some [] → (r ≡ Ok (flow.Break tt)) × (k ≡ s) × (after ≡ store)
   pub brings : (text : List ℕ) → got ≡ Some text → 1 ≤ length text
       → IfOk r (λ f. (f ≡ flow.Continue tt) × MovesAll text s store k after)

@@ -1,9 +1,9 @@
 // Reads lines of calls from standard input, and writes a line for each to standard output.
 #![tactic(auto)]
 
-ghost use Rattle.std.specs.Prelude.{true, ◌≡◌, IfOk};
+ghost use Rattle.std.specs.Prelude.{true, ◌≡◌, IfOk, OnErr};
 ghost use Rattle.std.specs.Option.{option_copied};
-ghost use Rattle.bench_lines.specs.Feeding.{fits};
+ghost use Rattle.bench_lines.specs.Feeding.{begin, fits};
 ghost use Rattle.blockbench.specs.Moving.{MovesSome, MovesAll, MovesGot, MovesLast};
 
 use bench_lines;
@@ -43,12 +43,14 @@ struct Desk {
 impl Desk {
     // Reads on in a piece, and writes out what that prints.
     fn move_some(&mut self, rt: &HostRuntime, text: &[u8], from: usize) -> Result<usize, Failure>
-        ensures { IfOk result (λ r. MovesSome text.now from self.old.bench self.old.store (record { bench = self.new.bench; read = r }) self.new.store) }
+        ensures ok { IfOk result (λ r. MovesSome text.now from self.old.bench self.old.store (record { bench = self.new.bench; read = r }) self.new.store) }
+        ensures err { OnErr result (self.new.bench ≡ begin) }
     {
         let mut out: [u8; LARGE] = [0; LARGE];
         let fed = bench_lines::feed(text, from, self.bench, &mut self.store, &mut out);
         self.bench = fed.bench;
         if rt.stdout().write_all(&out[..fed.bench.used]).is_err() {
+            self.bench = Bench::new();
             return Err(Failure::Answers);
         }
         Ok(fed.read)
@@ -56,7 +58,8 @@ impl Desk {
 
     // All of a piece: each turn reads a byte at least, since an empty buffer has room for an answer.
     fn move_all(&mut self, rt: &HostRuntime, text: &[u8]) -> Result<(), Failure>
-        ensures { IfOk result (λ _. MovesAll text.now self.old.bench self.old.store self.new.bench self.new.store) }
+        ensures ok { IfOk result (λ _. MovesAll text.now self.old.bench self.old.store self.new.bench self.new.store) }
+        ensures err { OnErr result (self.new.bench ≡ begin) }
     {
         let mut read = 0;
         while read < text.len() {
@@ -67,9 +70,11 @@ impl Desk {
 
     // What a read brought, if it did not fail. At the end of the input a line that was begun is kept.
     fn move_got(&mut self, rt: &HostRuntime, got: Option<&[u8]>) -> Result<ControlFlow<()>, Failure>
-        ensures { MovesGot (option_copied got.entry) self.old.bench self.old.store result self.new.bench self.new.store }
+        ensures got { MovesGot (option_copied got.entry) self.old.bench self.old.store result self.new.bench self.new.store }
+        ensures err { OnErr result (self.new.bench ≡ begin) }
     {
         let Some(text) = got else {
+            self.bench = Bench::new();
             return Err(Failure::Input);
         };
         if text.is_empty() {
@@ -100,7 +105,8 @@ impl Desk {
 
     // A last line that has a byte needs no line feed.
     fn move_last(&mut self, rt: &HostRuntime) -> Result<(), Failure>
-        ensures { MovesLast self.old.bench self.old.store result self.new.bench self.new.store }
+        ensures last { MovesLast self.old.bench self.old.store result self.new.bench self.new.store }
+        ensures err { OnErr result (self.new.bench ≡ begin) }
     {
         if self.bench.is_begun() {
             self.move_all(rt, b"\n")?;
