@@ -21,7 +21,8 @@ use Rattle.chunks.specs.Steps.{relabelled}
 use Rattle.opening.specs.Look.{on_table, table_fault}
 use Rattle.search.specs.Slots.{some_slot}
 use Rattle.giving_back.specs.GivingBack.{changes, slot_found, found_on, free_on, rename_on, Bounded}
-use Rattle.opening.specs.Fault.{is-fit, unfit, on-block, turned-away}
+use Rattle.opening.specs.Fault.{is-fit, unfit, on-block}
+use Rattle.opening.proofs.Turned.{turned-away}
 use Rattle.std.specs.Prelude.{ok_or}
 use Rattle.refusals.specs.declared.Refusal.{Refusal}
 use Rattle.refusals.specs.declared.Refusal.TheVariants.{UnknownId}

@@ -7,7 +7,8 @@ use Rattle.refusals.specs.Refusals.{number_of}
 use Rattle.table.specs.Layout.{is_table}
 use Rattle.words.specs.Words.{block_of, sound}
 use Rattle.opening.specs.Look.{table_fault}
-use Rattle.opening.specs.Fault.{turned-away, on-block}
+use Rattle.opening.specs.Fault.{on-block}
+use Rattle.opening.proofs.Turned.{turned-away}
 use Rattle.leaks.specs.Leaks.{handed_out, live_from, leak_on}
 
 module _ (ws : List ℕ) (address : ℕ) where

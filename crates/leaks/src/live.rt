@@ -42,6 +42,7 @@ fn first_from(table: SoundTable, address: u64) -> Option<Leak>
     ensures { result ≡ handed_out (live_from address (block_of table.entry.words.now)) }
 {
     let mut k = layout::head(table.words, HeadField::FirstSlot);
+    // a link of 0 is none, as the table has it: an Option would be made and at once taken apart
     while k != 0 {
         if is_from(table.words, k, address) {
             return Some(leak_at(table.words, k));

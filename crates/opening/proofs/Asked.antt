@@ -11,7 +11,7 @@ use Rattle.words.proofs.Checked.{sound-exactly}
 use Rattle.opening.specs.Look.{on_table, table_fault}
 use Rattle.opening.specs.Questions.{allocated_on, is_empty_on}
 use Rattle.opening.proofs.Exactly.{allocated-head}
-use Rattle.opening.specs.Fault.{turned-away}
+use Rattle.opening.proofs.Turned.{turned-away}
 use Rattle.opening.specs.Looked.{table_exactly}
 
 module _ (ws : List ℕ) where

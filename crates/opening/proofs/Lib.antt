@@ -1,4 +1,5 @@
 -- The laws that the proofs of `opening` share. Assumes nothing.
+pub mod Turned
 pub mod Asked
 -- what the look at the words tells, in the paper's words
 pub mod Looked

@@ -1,11 +1,8 @@
 -- What the look at the words tells. Assumes nothing.
 use Rattle.std.specs.Prelude.{ℕ, true, false, List, ◌≢◌, ◌≡◌, refl}
-use Rattle.std.proofs.Common.{arith, sym, ◌∙◌}
+use Rattle.std.proofs.Common.{arith}
 use Rattle.laws.specs.Reply.{Reply, refused}
 use Rattle.laws.specs.Tests.{cond_cases}
-use Rattle.refusals.specs.declared.Refusal.{Refusal}
-use Rattle.refusals.specs.Refusals.{number_of}
-use Rattle.refusals.proofs.Refusals.{number-positive}
 use Rattle.model.specs.Block.{Block}
 use Rattle.table.specs.Layout.{is_table}
 use Rattle.words.specs.Words.{block_of, sound, decode}
@@ -47,7 +44,3 @@ module _ (ws : List ℕ) where
     -- Without one the call is answered on the block.
     pub on-block : is_table ws ≡ true → sound ws ≡ true → on_table f (decode ws) ≡ f (block_of ws)
     on-block t s = rw (decode-block ws t s)
-
-    -- A refusal with the number of such a fault is that answer.
-    pub turned-away : (r : Refusal) → number_of r ≡ table_fault ws → refused (number_of r) ≡ on_table f (decode ws)
-    turned-away r e = rw e (sym (unfit (λ z. number-positive r (e ∙ z))))

@@ -42,7 +42,8 @@ use Rattle.opening.specs.Calls.{leaves}
 use Rattle.opening.specs.Look.{table_fault}
 use Rattle.sub_allocator.specs.Answers.{Given}
 use Rattle.placing.specs.Placing.{given, mark_of, placed_on, allocate_on, Chosen, Measured}
-use Rattle.opening.specs.Fault.{turned-away, on-block}
+use Rattle.opening.specs.Fault.{on-block}
+use Rattle.opening.proofs.Turned.{turned-away}
 use Rattle.refusals.proofs.Refusals.{number-positive}
 
 module _ (ws : List ℕ) (k : ℕ) (r : Request) (h : Chosen ws k r) where
