@@ -95,7 +95,8 @@ impl Bench {
     }
 }
 
-// The text is read from a place on, to its end or for as long as the buffer has room for an answer.
+// The text is read from a place on, to its end or for as long as the buffer has room for an answer. The place stands beside the text, not as
+// a slice of it: it may lie past the end, and `feed_on` says what is answered then.
 pub fn feed(text: &[u8], from: usize, begun: Bench, store: &mut [u64], out: &mut [u8]) -> Fed
     ensures out_after { (result, store.new, out.new) ≡ feed_on text.now from begun store.old out.old }
     ensures used_in_bounds { result.bench.used ≤ length out.new }

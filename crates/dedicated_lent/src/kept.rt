@@ -8,7 +8,7 @@ use refusals::Refusal;
 use sub_allocator::answers::Placement;
 use sub_allocator::request::Request;
 
-// As those by value, but they run the lent calls: the recorded calls of the Rust are replayed through these.
+// They promise what those by value do, and stand beside them since docs/STATEMENTS.md has them: a copy is lent to the lent calls.
 pub fn allocate(
     block: DedicatedBlock,
     request: Request,

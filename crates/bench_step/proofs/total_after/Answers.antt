@@ -32,13 +32,13 @@ returns-in-Err g c =
 pub head-requires : goal.head-requires
 head-requires g c =
     let f : table_fault c.args.words.now ≡ 0 = elim c.in_default.branch [
-      in_default-via-in-Err+else-is_unfit w ↦ refused-tells _ _ c.requires w.in-Err.refusal _ false w.in-Err.is w.is_unfit.ensures w.if-is_unfit.false
+      | in_default-via-in-Err+else-is_unfit w ↦ refused-tells _ _ c.requires w.in-Err.refusal _ false w.in-Err.is w.is_unfit.ensures w.if-is_unfit.false
       | in_default-via-in_default w ↦ accepted-tells _ _ c.requires _ w.in_default.is
     ] in head-of _ f
 
 pub returns-in_default : goal.returns-in_default
 returns-in_default g c =
     let f : table_fault c.args.words.now ≡ 0 = elim c.in_default.branch [
-      in_default-via-in-Err+else-is_unfit w ↦ refused-tells _ _ c.requires w.in-Err.refusal _ false w.in-Err.is w.is_unfit.ensures w.if-is_unfit.false
+      | in_default-via-in-Err+else-is_unfit w ↦ refused-tells _ _ c.requires w.in-Err.refusal _ false w.in-Err.is w.is_unfit.ensures w.if-is_unfit.false
       | in_default-via-in_default w ↦ accepted-tells _ _ c.requires _ w.in_default.is
     ] in c.head.ensures ∙ total-word _ f
