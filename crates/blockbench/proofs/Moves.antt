@@ -66,5 +66,5 @@ module _ (text : List ℕ) (s : Bench) (store : List ℕ) (m : Fed) (store' : Li
       }
 
   -- The piece is read to its end.
-  pub ends : length text ≤ m.read → MovesAll text s store m.bench store'
-  ends h = record { keeps = g.keeps ∙ ap (after_all (state_of s store)) (take_all m.read text h); long = g.long }
+  pub ends : length text ≤ m.read → MovesAll text s store m store'
+  ends h = record { read = omega (arith, g.most); keeps = g.keeps ∙ ap (after_all (state_of s store)) (take_all m.read text h); long = g.long }

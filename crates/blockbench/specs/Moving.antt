@@ -19,18 +19,19 @@ pub record MovesSome (text : List ℕ) (from : ℕ) (s : Bench) (store : List �
   pub long : fits r.bench after ≡ true
 
 -- All of it is read, unless the answers cannot be written.
-pub record MovesAll (text : List ℕ) (s : Bench) (store : List ℕ) (r : Bench) (after : List ℕ) : Type 0 where
-  pub keeps : state_of r after ≡ after_all (state_of s store) text
-  pub long : fits r after ≡ true
+pub record MovesAll (text : List ℕ) (s : Bench) (store : List ℕ) (r : Fed) (after : List ℕ) : Type 0 where
+  pub read : r.read ≡ length text
+  pub keeps : state_of r.bench after ≡ after_all (state_of s store) text
+  pub long : fits r.bench after ≡ true
 
 -- After a failed read there is no text any more. At the end of the input what is kept stays. Any other read brings a piece.
 pub record MovesGot (got : Option (List ℕ)) (s : Bench) (store : List ℕ) (r : Result (ControlFlow Unit Unit) Failure) (k : Bench) (after : List ℕ) : Type 0 where
   pub fails : got ≡ None → (r ≡ Err failure.Input) × (after ≡ store)
   pub ends : got ≡ Some [] → (r ≡ Ok (flow.Break tt)) × (k ≡ s) × (after ≡ store)
   pub brings : (text : List ℕ) → got ≡ Some text → 1 ≤ length text
-      → IfOk r (λ f. (f ≡ flow.Continue tt) × MovesAll text s store k after)
+      → IfOk r (λ f. (f ≡ flow.Continue tt) × MovesAll text s store record { bench = k; read = length text } after)
 
 -- A last line is ended by a line feed exactly where it has a byte.
 pub record MovesLast (s : Bench) (store : List ℕ) (r : Result Unit Failure) (k : Bench) (after : List ℕ) : Type 0 where
-  pub ends : is_begun s ≡ true → IfOk r (λ _. MovesAll (10 ∷ []) s store k after)
+  pub ends : is_begun s ≡ true → IfOk r (λ _. MovesAll (10 ∷ []) s store record { bench = k; read = 1 } after)
   pub stays : is_begun s ≡ false → (r ≡ Ok tt) × (k ≡ s) × (after ≡ store)

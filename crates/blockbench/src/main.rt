@@ -56,16 +56,16 @@ impl Desk {
         Ok(fed.read)
     }
 
-    // All of a piece: each turn reads a byte at least, since an empty buffer has room for an answer.
-    fn move_all(&mut self, rt: &HostRuntime, text: &[u8]) -> Result<(), Failure>
-        ensures ok { IfOk result (λ _. MovesAll text.now self.old.bench self.old.store self.new.bench self.new.store) }
+    // All of a piece, and how much that is: each turn reads a byte at least, since an empty buffer has room for an answer.
+    fn move_all(&mut self, rt: &HostRuntime, text: &[u8]) -> Result<usize, Failure>
+        ensures ok { IfOk result (λ r. MovesAll text.now self.old.bench self.old.store (record { bench = self.new.bench; read = r }) self.new.store) }
         ensures err { OnErr result (self.new.bench ≡ begin) }
     {
         let mut read = 0;
         while read < text.len() {
             read = self.move_some(rt, text, read)?;
         }
-        Ok(())
+        Ok(read)
     }
 
     // What a read brought, if it did not fail. At the end of the input a line that was begun is kept.
