@@ -1,5 +1,5 @@
-// Whether the calls of a free-list block answer as a recorded line says, on the words of its table. A line with too few or
-// too many fields agrees with nothing, and is no call.
+// Whether the calls of a free-list block answer as a recorded line says, on the words of its table; and the words that a block of either
+// kind stands on. A line with too few or too many fields agrees with nothing, and is no call.
 #![tactic(auto)]
 
 pub mod calls;
@@ -88,10 +88,7 @@ impl Store {
 
     // The record of a dedicated block, which is the block at hand from now on.
     pub fn put(&mut self, record: [u64; 3]) {
-        let [size, allocated, label] = record;
-        self.words[0] = size;
-        self.words[1] = allocated;
-        self.words[2] = label;
+        self.words[..3].copy_from_slice(&record);
         self.lent = Lent { count: 3 };
     }
 

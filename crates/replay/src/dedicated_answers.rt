@@ -44,11 +44,7 @@ fn creation_agrees(store: &mut Store, size: u64, number: u64) -> bool {
 // The block at hand, if that is a dedicated one: a table has more than three words.
 fn block_in(store: &Store) -> Option<DedicatedBlock> {
     match *store.lent() {
-        [size, allocated, label] => Some(DedicatedBlock {
-            size,
-            allocated,
-            label,
-        }),
+        [size, allocated, label] => Some(DedicatedBlock::from([size, allocated, label])),
         _ => None,
     }
 }

@@ -23,7 +23,8 @@ fn read_on<R: Read>(input: &mut R, lines: &mut Lines) -> io::Result<usize> {
     Ok(count)
 }
 
-// Takes a piece. A terminal may go on after an end, so that the next piece is asked for all the same.
+// Takes a piece. A terminal may go on after an end, so that the next piece is asked for all the same. A proved loop has to end: its range is
+// one that no run uses up.
 fn read_piece<R: Read>(piece: &mut R, lines: &mut Lines) -> io::Result<()> {
     for _ in 0..u64::MAX {
         if read_on(piece, lines)? == 0 {
