@@ -1,27 +1,32 @@
 // Whether the calls of a dedicated block answer as a recorded line says. Its record is in three words of the store.
 use dedicated::record::{AllocationReport, DedicatedBlock};
 use dedicated::{creation, questions};
+use dedicated_lent::kept;
 use recorded_blocks::calls::SubAllocator;
 use recorded_blocks::{Store, calls};
 use refusals::Refusal;
 use sub_allocator::answers::Placement;
 use sub_allocator::request::Request;
 
-// A dedicated block, which is lent to each call.
+// A dedicated block, a copy of which is lent to each call: what became of it is kept.
 #[derive(Clone, Copy)]
 struct Dedicated(DedicatedBlock);
 
 impl SubAllocator for Dedicated {
     fn allocate(&mut self, request: Request) -> Result<Placement, Refusal> {
-        dedicated_lent::allocate(&mut self.0, request)
+        let (placement, after) = kept::allocate(self.0, request)?;
+        self.0 = after;
+        Ok(placement)
     }
 
     fn free(&mut self, id: u64) -> Result<(), Refusal> {
-        dedicated_lent::free(&mut self.0, id)
+        self.0 = kept::free(self.0, id)?;
+        Ok(())
     }
 
     fn rename_allocation(&mut self, id: u64, label: u64) -> Result<(), Refusal> {
-        dedicated_lent::rename_allocation(&mut self.0, id, label)
+        self.0 = kept::rename_allocation(self.0, id, label)?;
+        Ok(())
     }
 
     fn left(&self) -> Option<(u64, u64)> {

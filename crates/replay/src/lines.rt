@@ -29,6 +29,15 @@ impl Fields {
         &self.numbers[..self.count]
     }
 
+    // One byte more of the line, none where it can agree with nothing then.
+    fn with(self, byte: u8) -> Option<Self> {
+        match byte {
+            b' ' => self.with_next(),
+            b'0'..=b'9' => self.with_digit(u64::from(byte - b'0')),
+            _ => None,
+        }
+    }
+
     // What would not fit a word is no number of the Rust's.
     fn with_digit(mut self, digit: u64) -> Option<Self> {
         let last = self.count - 1;
@@ -88,12 +97,12 @@ impl Lines {
         match byte {
             b'\n' => self.end_line(),
             b'#' => self.comment = true,
-            b' ' => self.fields = self.fields.and_then(|fields| fields.with_next()),
-            b'0'..=b'9' => {
-                let digit = u64::from(byte - b'0');
-                self.fields = self.fields.and_then(|fields| fields.with_digit(digit));
+            _ => {
+                // no map over the Option: it would be stored again for each byte of a spoilt line
+                if let Some(fields) = self.fields {
+                    self.fields = fields.with(byte);
+                }
             }
-            _ => self.fields = None,
         }
     }
 

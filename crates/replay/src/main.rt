@@ -16,18 +16,18 @@ const PIECES: u64 = 64;
 const PIECE: u64 = 65536;
 
 // Takes what one read brings: no bytes only where the piece or the input ends.
-fn read_on<R: Read>(input: &mut R, lines: &mut Lines) -> io::Result<usize> {
-    let mut space: [u8; 65536] = [0; 65536];
-    let count = input.read(&mut space)?;
+fn read_on<R: Read>(input: &mut R, space: &mut [u8], lines: &mut Lines) -> io::Result<usize> {
+    let count = input.read(space)?;
     lines.feed(&space[..count]);
     Ok(count)
 }
 
-// Takes a piece. A terminal may go on after an end, so that the next piece is asked for all the same. A proved loop has to end: its range is
-// one that no run uses up.
+// Takes a piece, by reads into one space, which is cleared once: a read may bring a byte alone. A terminal may go on after an end, so that the next
+// piece is asked for all the same. A proved loop has to end: its range is one that no run uses up.
 fn read_piece<R: Read>(piece: &mut R, lines: &mut Lines) -> io::Result<()> {
+    let mut space: [u8; 65536] = [0; 65536];
     for _ in 0..u64::MAX {
-        if read_on(piece, lines)? == 0 {
+        if read_on(piece, &mut space, lines)? == 0 {
             break;
         }
     }
