@@ -1,2 +1,3 @@
--- Why calls are refused, by the paper's numbers.
+-- Why calls are refused, by the paper's numbers, and in words.
 pub mod Refusals
+pub mod Texts
