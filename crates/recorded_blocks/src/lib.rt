@@ -21,7 +21,7 @@ use table::layout::HeadField;
 
 // Room for the largest table. The block at hand stands on the first words of it, and on none while there is no block: a free-list block on
 // those of its table, a dedicated one on three.
-#[derive(Drop)]
+#[derive(Clone, Copy)]
 pub struct Store {
     words: [u64; layout::MOST_WORDS],
     lent: Lent,

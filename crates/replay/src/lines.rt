@@ -54,7 +54,7 @@ impl Fields {
     }
 }
 
-#[derive(Drop)]
+#[derive(Clone, Copy)]
 pub struct Lines {
     // None where the present line is none that agrees with anything.
     fields: Option<Fields>,
