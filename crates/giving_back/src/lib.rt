@@ -71,7 +71,7 @@ fn give_back(words: &mut [u64], k: u64)
 }
 
 // The slot of the live chunk with this id.
-#[tactic(auto, using(crate::proofs::Answered::not_looked, crate::proofs::Answered::found_told))]
+#[tactic(auto, using(words::proofs::Written::sound_is_table, crate::proofs::Answered::not_looked, crate::proofs::Answered::found_told))]
 fn find(words: &[u64], id: u64) -> Result<u64, Refusal>
     ensures { reply result ≡ found_on words.now id }
 {

@@ -52,7 +52,7 @@ fn first_from(table: SoundTable, address: u64) -> Option<Leak>
     None
 }
 
-#[tactic(auto, using(crate::proofs::Handing::not_looked, crate::proofs::Handing::handed))]
+#[tactic(auto, using(words::proofs::Written::sound_is_table, crate::proofs::Handing::not_looked, crate::proofs::Handing::handed))]
 pub fn live_from(words: &[u64], address: u64) -> Result<Option<Leak>, Refusal>
     ensures { reply result ≡ leak_on words.now address }
 {

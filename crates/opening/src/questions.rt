@@ -8,7 +8,7 @@ use refusals::Refusal;
 use table::layout;
 use table::layout::HeadField;
 
-#[tactic(auto, using(crate::proofs::Asked::not_looked, crate::proofs::Asked::the_total, crate::proofs::Asked::has_head))]
+#[tactic(auto, using(words::proofs::Written::sound_is_table, crate::proofs::Asked::not_looked, crate::proofs::Asked::the_total, crate::proofs::Asked::has_head))]
 pub fn allocated(words: &[u64]) -> Result<u64, Refusal>
     ensures { reply result ≡ allocated_on words.now }
 {

@@ -44,6 +44,13 @@ known ws e =
       links = rw (ap first_slot (sym w) ∙ (encode-head (block_of ws)).3) (linked ws (block_of ws) (sound-laid (block_of ws) h) r);
     }
 
+-- They are a table's.
+pub sound_is_table : (ws : List ℕ) → sound ws ≡ true → is_table ws ≡ true
+sound_is_table ws e =
+    let k = known ws e in
+    table_length ws (block_of ws).slots k.block.slots.0 k.block.slots.1
+    (ap length (sym k.words) ∙ encode-length (block_of ws))
+
 -- ---- what words are read as
 
 -- Words of another count are no table, and words that are not sound hold no block.

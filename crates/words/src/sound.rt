@@ -1,11 +1,9 @@
 // A table whose words are sound, lent to be read.
 ghost use Rattle.std.specs.Prelude.{true, ◌≡◌};
-ghost use Rattle.table.specs.Layout.{is_table};
 ghost use Rattle.words.specs.Words.{sound};
 
 #[derive(Clone, Copy)]
 pub struct SoundTable<'a> {
     pub words: &'a [u64],
-    ghost table: { is_table words.now ≡ true },
     ghost sound: { sound words.now ≡ true },
 }

@@ -1,12 +1,13 @@
 -- `leaks::live::first_from` meets its contract. Assumes nothing.
 use Rattle.std.proofs.Common.{arith, sym, ap, ◌∙◌, Some}
 use Rattle.table.specs.Layout.{table_shape}
+use Rattle.words.proofs.Written.{sound_is_table}
 use Rattle.leaks.specs.Leaks.{Live}
 use Rattle.leaks.proofs.Finding.{begin, in_slot, falls, met, go_on, ended}
 use Rattle.leaks.proofs.live.first_from.Goals as goal
 
 pub head-k-requires : goal.head-k-requires
-head-k-requires c = omega (arith, (table_shape _ c.args.table.table).2)
+head-k-requires c = omega (arith, (table_shape _ (sound_is_table _ c.args.table.sound)).2)
 
 pub loop-k-init : goal.loop-k-init
 loop-k-init c = begin _ c.args.table.sound _ _ c.head-k.ensures
