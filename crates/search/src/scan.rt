@@ -8,6 +8,7 @@ use table::layout;
 use table::layout::Field;
 use words::sound::SoundTable;
 
+#[tactic(auto, using(words::proofs::Written::sound_is_table))]
 pub fn slot_with(table: SoundTable, id: u64) -> Option<u64>
     ensures { result ≡ within (slot_count table.entry.words.now) (slot_with table.entry.words.now id) }
 {

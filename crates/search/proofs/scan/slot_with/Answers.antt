@@ -2,12 +2,8 @@
 use Rattle.std.proofs.Common.{◌≡◌, ◌≢◌, rules}
 use Rattle.std.proofs.lemmas.Iterator.{first_from_Range}
 use Rattle.table.specs.Layout.{id_at}
-use Rattle.words.proofs.Written.{sound_is_table}
 use Rattle.search.proofs.Scanning.{found_within}
 use Rattle.search.proofs.scan.slot_with.Goals as goal
-
-pub slot_count-requires : goal.slot_count-requires
-slot_count-requires c = sound_is_table _ c.args.table.sound
 
 pub returns : goal.returns
 returns c =
