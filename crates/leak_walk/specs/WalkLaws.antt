@@ -54,7 +54,11 @@ one_fault (Some r) None e = absurd (number-positive r e)
 one_fault (Some r) (Some q) e = ap Some (one_refusal r q e)
 
 -- Two walks of which the same is seen are equal.
-pub one_walk : (v w : declared.Walk) → seen v ≡ seen w → v ≡ w
+pub one_walk : (v w : declared.Walk (Option Refusal)) → seen v ≡ seen w → v ≡ w
 one_walk v w e =
     let f = one_fault v.fault w.fault (ap (λ (x : Walk). x.fault) e) in
     λ i. record { words = (e i).words; place = (e i).place; fault = f i }
+
+-- What is seen of the code's walk after a step is the step of what was seen of it.
+pub step-seen : (w : declared.Walk (Option Refusal)) → ((step_of w).0, seen (step_of w).1) ≡ step_of (seen w)
+step-seen w = refl

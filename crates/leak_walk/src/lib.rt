@@ -11,12 +11,12 @@ use leaks::steps;
 use opening::look;
 use refusals::Refusal;
 
-// place: an address, from which on nothing is handed out yet; fault: what the table was refused for at the start.
+// place: an address, from which on nothing is handed out yet; fault: what is kept of the start, by default what the table was refused for.
 #[derive(Drop)]
-pub struct Walk<'a> {
+pub struct Walk<'a, F = Option<Refusal>> {
     pub words: &'a [u64],
     pub place: u64,
-    pub fault: Option<Refusal>,
+    pub fault: F,
 }
 
 pub fn start<'a>(words: &'a [u64]) -> Walk<'a>
@@ -29,8 +29,9 @@ pub fn start<'a>(words: &'a [u64]) -> Walk<'a>
     }
 }
 
-pub fn step<'s, 'a>(walk: &'s mut Walk<'a>) -> Result<Option<Leak>, Refusal>
-    ensures { (reply result, seen walk.new) ≡ step_of (seen walk.old) }
+// On a walk with any fault, a number or nothing too: no step reads it.
+pub fn step<'s, 'a, F>(walk: &'s mut Walk<'a, F>) -> Result<Option<Leak>, Refusal>
+    ensures { (reply result, walk.new) ≡ step_of walk.old }
 {
     steps::step_at(walk.words, &mut walk.place)
 }
@@ -42,7 +43,7 @@ pub fn step_from(words: &[u64], place: &mut u64) -> Result<Option<Leak>, Refusal
     let mut walk = Walk {
         words,
         place: *place,
-        fault: None,
+        fault: (),
     };
     let leak = step(&mut walk);
     *place = walk.place;
