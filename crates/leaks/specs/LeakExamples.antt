@@ -3,10 +3,9 @@ use Rattle.std.specs.Prelude.{ℕ, ◌-◌, ◌^◌, List, [], ◌∷◌, map, �
 use Rattle.laws.specs.Every.{every}
 use Rattle.laws.specs.Members.{has, distinct, same}
 use Rattle.laws.specs.Reply.{Reply, accepted, refused}
-use Rattle.refusals.specs.Refusals.{reply}
 use Rattle.table.specs.Layout.{is_table}
 use Rattle.words.specs.Words.{row_at, rows, encode, read, chunks_of, block_of, chunk_ok, all_ok, none_free, rules, sound, decode}
-use Rattle.leaks.specs.Leaks.{Live, live_from, leak_on, step_on}
+use Rattle.leaks.specs.Leaks.{Live, reply_leak, live_from, leak_on, step_on}
 use Rattle.leaks.specs.Lives.{lives}
 use Rattle.leaks.specs.Walked.{walk_on}
 
@@ -19,7 +18,7 @@ abbrev end : Reply (Option Live)
 end = accepted None
 
 -- The code's answer is read field by field.
-live_told : reply (Ok (Some record { id = 3; first_byte = 1000; size = 3096; kind = 2; label = 9 })) ≡ live 3 1000 3096 2 9
+live_told : reply_leak (Ok (Some record { id = 3; first_byte = 1000; size = 3096; kind = 2; label = 9 })) ≡ live 3 1000 3096 2 9
 unfolding live
 live_told = refl
 

@@ -1,7 +1,9 @@
 -- The leak walk: what a step from a place hands out, and the place after it. Assumes nothing.
-use Rattle.std.specs.Prelude.{ℕ, ◌+◌, Bool, not, ◌&&◌, List, [], leb, Option, None, Some}
+use Rattle.std.specs.Prelude.{ℕ, ◌+◌, Bool, not, ◌&&◌, List, [], leb, Option, None, Some, Result}
 use Rattle.std.proofs.Math.Option as spot
 use Rattle.laws.specs.Reply.{Reply, accepted, refused}
+use Rattle.refusals.specs.declared.Refusal.{Refusal}
+use Rattle.refusals.specs.Refusals.{reply}
 use Rattle.model.specs.Block.{Block, Spot, is_free, first, spots}
 use Rattle.model.specs.GivingBack.{find}
 use Rattle.words.specs.Words.{decode}
@@ -11,6 +13,10 @@ use Rattle.leaks.specs.declared.leak.Leak.{Leak}
 -- what is handed out of a live chunk; the size has the padding in it
 abbrev pub Live : Type 0
 Live = Leak
+
+-- the code's answer, as the paper numbers it; the end is no refusal
+abbrev pub reply_leak : Result (Option Leak) Refusal → Reply (Option Live)
+reply_leak answer = reply answer
 
 -- ---- the search
 

@@ -1,9 +1,9 @@
 // The first live chunk that begins at an address or later.
-ghost use Rattle.std.specs.Prelude.{◌≡◌};
-ghost use Rattle.refusals.specs.Refusals.{reply};
+ghost use Rattle.std.specs.Prelude.{◌≡◌, Ok, Some};
+ghost use Rattle.laws.specs.Reply.{accepted};
 ghost use Rattle.table.specs.Layout.{Slot};
 ghost use Rattle.words.specs.Words.{block_of};
-ghost use Rattle.leaks.specs.Leaks.{handed_out, live_from, leak_on};
+ghost use Rattle.leaks.specs.Leaks.{reply_leak, handed_out, live_from, leak_on};
 ghost use Rattle.leaks.specs.Lives.{live_at};
 ghost use Rattle.leaks.specs.LiveSlots.{is_from_at};
 
@@ -26,7 +26,7 @@ fn is_from(w: &[u64], k: u64, address: u64) -> bool
 // What is handed out of the chunk in slot k.
 fn leak_at(w: &[u64], k: u64) -> Leak
     requires { Slot w.now k }
-    ensures { result ≡ live_at w.now k }
+    ensures { reply_leak (Ok (Some result)) ≡ accepted (Some (live_at w.now k)) }
 {
     Leak {
         id: layout::word(w, k, Field::Id),
@@ -39,7 +39,7 @@ fn leak_at(w: &[u64], k: u64) -> Leak
 
 // That chunk of a sound table, if there is one.
 fn first_from(table: SoundTable, address: u64) -> Option<Leak>
-    ensures { result ≡ handed_out (live_from address (block_of table.entry.words.now)) }
+    ensures { reply_leak (Ok result) ≡ accepted (handed_out (live_from address (block_of table.entry.words.now))) }
 {
     let mut k = layout::head(table.words, HeadField::FirstSlot);
     // a link of 0 is none, as the table has it: an Option would be made and at once taken apart
@@ -54,7 +54,7 @@ fn first_from(table: SoundTable, address: u64) -> Option<Leak>
 
 #[tactic(auto, using(words::proofs::Written::sound_is_table, crate::proofs::Handing::not_looked, crate::proofs::Handing::handed))]
 pub fn live_from(words: &[u64], address: u64) -> Result<Option<Leak>, Refusal>
-    ensures { reply result ≡ leak_on words.now address }
+    ensures { reply_leak result ≡ leak_on words.now address }
 {
     let table = look::sound_table(words)?;
     Ok(first_from(table, address))

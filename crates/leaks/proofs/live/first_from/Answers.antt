@@ -1,5 +1,7 @@
 -- `leaks::live::first_from` meets its contract. Assumes nothing.
-use Rattle.std.proofs.Common.{arith, sym, ap, ◌∙◌, Some}
+use Rattle.std.proofs.Common.{arith, sym, ap, ◌∙◌}
+use Rattle.std.specs.Prelude.{Option}
+use Rattle.laws.specs.Reply.{accepted}
 use Rattle.table.specs.Layout.{table_shape}
 use Rattle.words.proofs.Written.{sound_is_table}
 use Rattle.leaks.specs.Leaks.{Live}
@@ -20,8 +22,9 @@ leak_at-requires c = in_slot _ c.args.table.sound _ _ c.loop-k.invariant c.loop-
 
 pub returns-then-is_from : goal.returns-then-is_from
 returns-then-is_from c =
-    ap (λ (l : Live). Some l) c.leak_at.ensures
-    ∙ met _ c.args.table.sound _ _ c.loop-k.invariant c.loop-k-test.true (sym c.is_from.ensures ∙ c.if-is_from.true)
+    c.leak_at.ensures
+    ∙ ap (λ (o : Option Live). accepted o)
+    (met _ c.args.table.sound _ _ c.loop-k.invariant c.loop-k-test.true (sym c.is_from.ensures ∙ c.if-is_from.true))
 
 pub word-k-requires : goal.word-k-requires
 word-k-requires c = in_slot _ c.args.table.sound _ _ c.loop-k.invariant c.loop-k-test.true
@@ -35,4 +38,5 @@ loop-k-preserved c =
     (go_on _ c.args.table.sound _ _ c.loop-k.invariant c.loop-k-test.true (sym c.is_from.ensures ∙ c.if-is_from.false))
 
 pub returns : goal.returns
-returns c = ended _ c.args.table.sound _ _ c.loop-k.invariant c.loop-k-test.false
+returns c =
+    ap (λ (o : Option Live). accepted o) (ended _ c.args.table.sound _ _ c.loop-k.invariant c.loop-k-test.false)
