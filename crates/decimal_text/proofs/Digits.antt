@@ -1,20 +1,22 @@
--- The library's digits of a number are those of the definition, and bytes copied into a part of a buffer are written over it. Assumes nothing.
-use Rattle.std.specs.Prelude.{ℕ, ◌+◌, ◌%◌, ◌^◌, ◌<◌, ◌≡◌, List, [], ◌∷◌, ◌++◌, length, take, drop}
-use Rattle.std.proofs.Common.{arith, ap, ◌∙◌}
-use Rattle.std.proofs.Math.Seq.{drop-drop}
-use Rattle.std.specs.Fmt.{decimal}
-use Rattle.std.proofs.lemmas.Fmt.{decimal_by_steps}
-use borrow.Rule.Slice.PartMut.{put_mid}
-use Rattle.laws.specs.Decimal.{decimal-small, decimal-large}
-use Rattle.laws.specs.Decimal
-use Rattle.laws.specs.Splice.{splice}
+-- The laws that the proofs of `decimal_text` share. Assumes nothing.
+use Rattle.std.specs.Prelude.{ℕ, ◌+◌, ◌/◌, ◌%◌, ◌^◌, ◌≤◌, ◌<◌, ◌≡◌, List, [], ◌∷◌, length}
+use Rattle.std.proofs.Common.{arith, length-append}
+use Rattle.laws.specs.Decimal.{decimal, digit, decimal-small, decimal-large}
+use Rattle.laws.specs.Splice.{splice, splice-both}
 
-pub same_digits : (n : ℕ) → n < 2 ^ 64 → Decimal.decimal n ≡ decimal n
-same_digits n h =
-    decimal_by_steps (λ m ds. m < 10 ^ 20 → Decimal.decimal m ≡ ds) (λ m l _. decimal-small m l)
-    (λ m ds l f b. decimal-large m l b ∙ ap (λ s. s ++ ((48 + m % 10) ∷ [])) (f (omega arith)))
-    n h (omega arith)
+-- how many there are
+pub len_small : (n : ℕ) → n < 10 → 1 ≡ length (decimal n)
+len_small n h = rw (decimal-small n h)
 
-pub copied : (xs ys zs : List ℕ) (at k : ℕ) → ys ≡ zs → k ≡ length zs → put_mid at k xs ys ≡ splice xs at zs
-unfolding splice
-copied xs ys zs at k e f = ap (λ l. take at xs ++ l) (λ i. e i ++ (drop-drop k at xs ∙ ap (λ m. drop (at + m) xs) f) i)
+pub len_large : (n : ℕ) → 10 ≤ n → n < 10 ^ 20 → length (decimal n) ≡ length (decimal (n / 10)) + 1
+len_large n h b = rw (decimal-large n h b) (length-append (decimal (n / 10)) (digit (n % 10) ∷ []))
+
+-- the digits of the tenth, and the last one behind them
+pub digits : (xs ys zs : List ℕ) (at next end n : ℕ) → 10 ≤ n → n < 10 ^ 20 → at + length (decimal n) ≤ length xs →
+    next ≡ at + length (decimal (n / 10)) → ys ≡ splice xs at (decimal (n / 10)) →
+    end ≡ next + 1 → zs ≡ splice ys next (digit (n % 10) ∷ []) →
+    (end ≡ at + length (decimal n)) × (zs ≡ splice xs at (decimal n))
+digits xs ys zs at next end n l b h e a f g = (
+  omega (arith, len_large n l b),
+  rw (decimal-large n l b) (splice-both xs ys zs at next (decimal (n / 10)) (digit (n % 10) ∷ []) (rw (decimal-large n l b) at h) e a g),
+)
