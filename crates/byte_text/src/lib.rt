@@ -13,7 +13,7 @@ use refusals::Refusal;
 
 // The units, each 1024 of the one before.
 #[derive(Clone, Copy, Debug, PartialEq, Eq)]
-enum Unit {
+pub enum Unit {
     B,
     KB,
     MB,
@@ -23,10 +23,10 @@ enum Unit {
 
 // What is shown: amount / over, in a unit.
 #[derive(Clone, Copy)]
-struct Shown {
-    amount: u64,
-    over: u64,
-    unit: Unit,
+pub struct Shown {
+    pub amount: u64,
+    pub over: u64,
+    pub unit: Unit,
 }
 
 // What is shown, to two places.

@@ -86,12 +86,14 @@ impl AllocationSizes {
         ensures device { IfOk result (λ r. (r.device.least ≡ self.min_device_memblock_size) × (r.device.most ≡ self.max_device_memblock_size)) }
         ensures host { IfOk result (λ r. (r.host.least ≡ self.min_host_memblock_size) × (r.host.most ≡ self.max_host_memblock_size)) }
     {
-        let device = SizeRange::new(self.min_device_memblock_size, self.max_device_memblock_size);
-        let host = SizeRange::new(self.min_host_memblock_size, self.max_host_memblock_size);
-        match (device, host) {
-            (Some(device), Some(host)) => Ok(Ranges { device, host }),
-            _ => Err(Refusal::Sizes),
-        }
+        let device = SizeRange::new(
+            self.min_device_memblock_size,
+            self.max_device_memblock_size,
+        ).ok_or(Refusal::Sizes)?;
+        let host = SizeRange::new(self.min_host_memblock_size, self.max_host_memblock_size).ok_or(
+            Refusal::Sizes,
+        )?;
+        Ok(Ranges { device, host })
     }
 
     // Both setters are the Rust's by name, and what they share is `checked` and `most_for`.
