@@ -24,7 +24,8 @@ pub fn put(buf: &mut [u8], at: usize, byte: u8) -> usize
     at + 1
 }
 
-// Stores the digits of n, and answers the next place.
+// Stores the digits of n, and answers the next place. By hand: the library's digits have to be copied, for which the archive for C would ask for
+// `memcpy` from outside.
 pub fn put_decimal(buf: &mut [u8], at: usize, n: u64) -> usize
     requires { at + length (decimal n) ≤ length buf.old }
     ensures { (result ≡ at + length (decimal n)) × (buf.new ≡ splice buf.old at (decimal n)) }
